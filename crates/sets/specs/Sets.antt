@@ -1,0 +1,20 @@
+-- Who is in a set of ways, and who in a set of tasks.
+use mathlib.Core.Bool.{Bool, not, _&&_}
+use Prim.Native.Nat.{ℕ}
+use lib.Dec.{ltb}
+use Rattle.sets.specs.Below.{someBelow}
+use Rattle.sets.specs.Member.{member}
+use Rattle.sets.specs.declared.way_set.WaySet.{WaySet}
+use Rattle.sets.specs.declared.task_set.TaskSet.{TaskSet}
+
+-- the set of ways names way w
+unfoldable pub names : WaySet → ℕ → Bool
+names s w = ltb w 8 && member (s .bits) w
+
+-- the set names no way at all
+unfoldable pub nameless : WaySet → Bool
+nameless s = not (someBelow 8 (names s))
+
+-- the set of tasks holds task k
+unfoldable pub holds : TaskSet → ℕ → Bool
+holds s k = ltb k 16 && member (s .bits) k
