@@ -1,0 +1,19 @@
+use mathlib.Core.Path.{_≡_, sym, ap}
+use Prim.Native.Nat.{_≤_}
+use lib.ListN.{length, getD}
+use native.Mathlib.Omega.{arith}
+use Rattle.taskset.specs.Table.{figuresOf}
+use Rattle.taskset.specs.View.{table}
+use Rattle.taskset.proofs.Tables.{count-table, task-past, task-there}
+use Rattle.taskset.proofs.draft.Draft.figures.Needs as need
+
+pub returns-then-task-self : need.returns-then-task-self
+returns-then-task-self c =
+    let d = c .args .self .now in
+    ap figuresOf (sym (task-past (table d .tasks) (c .args .task) (omega (arith, count-table d))))
+
+pub returns : need.returns
+unfolding table
+returns c =
+    let d = c .args .self .now in
+    ap figuresOf (sym (task-there (d .tasks) (d .count) (c .args .task) _ (c .if-task-self .left) (omega (arith, d .few, d .«task_places»))))
