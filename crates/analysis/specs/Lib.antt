@@ -1,0 +1,5 @@
+pub mod Sums
+pub mod Floor
+pub mod Charges
+pub mod Bounds
+pub mod FloorOf

@@ -1,0 +1,4 @@
+pub mod Answers
+pub mod Seen
+pub mod Meaning
+pub mod Until
