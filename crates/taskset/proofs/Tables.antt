@@ -10,7 +10,7 @@ use lib.Dec.{eqb, ltb}
 use lib.ListN.{length, take, getD, set, replicate}
 use lib.Seq.{length-take-le, take-suc-set}
 use Rattle.std.specs.declared.result.Result.the-variants.{Ok, Err}
-use Rattle.std.proofs.shelf.Ways.{tells, eqb-tells}
+use Rattle.std.proofs.shelf.Ways.{tells, eqb-tells, leb-tells}
 use Rattle.sets.specs.Sets.{holds}
 use Rattle.sets.specs.declared.task_set.TaskSet.{TaskSet}
 use Rattle.taskset.specs.declared.draft.Draft.{Draft}
@@ -18,13 +18,25 @@ use Rattle.taskset.specs.declared.fault.DraftFault.the-variants.{Unlisted}
 use Rattle.taskset.specs.declared.task.Task.{Task}
 use Rattle.taskset.specs.Figures.{lawful, allLawful}
 use Rattle.taskset.specs.Pairs.{pairAt}
-use Rattle.taskset.specs.Table.{Table, Lawful, count, taskAt}
+use Rattle.taskset.specs.Table.{Table, Lawful, bothListed, count, taskAt}
 use Rattle.taskset.specs.View.{table}
+
+false-true : false ≡ true → ⊥
+false-true z = let n : _≡_ {A = ℕ} 0 1 = ap (λ b. cond b 1 0) z in omega arith
 
 -- the table has as many tasks as the draft says
 pub count-table : (d : Draft) → count (table d) ≡ d .count
 unfolding table
 count-table d = length-take-le (d .count) (d .tasks) (omega (arith, d .few, d .«task_places»))
+
+-- what it means that two numbers are those of tasks
+pub both-listed : (d : Draft) (from to : ℕ) → bothListed (table d) from to ≡ true → (from < d .count) × (to < d .count)
+both-listed d from to h =
+    let e = count-table d in
+    ⊎-elim
+    (λ p. ⊎-elim (λ q. (omega (arith, p .1), omega (arith, q .1))) (λ q. absurd (false-true (grind (arith, p .0, q .0, h)))) (leb-tells (suc to) (count (table d))))
+    (λ p. absurd (false-true (grind (arith, p .0, h))))
+    (leb-tells (suc from) (count (table d)))
 
 -- every draft's table is lawful
 pub lawful-table : (d : Draft) → Lawful (table d)
@@ -102,6 +114,3 @@ pair-was false new k i from to e h =
     (λ p. ⊎-elim (λ q. inr (p .1, q .1)) (λ q. absurd (false-true (grind (arith, p .0, q .0, e, h)))) (eqb-tells i to))
     (λ p. absurd (false-true (grind (arith, p .0, e, h))))
     (eqb-tells k from)
-  where
-    false-true : false ≡ true → ⊥
-    false-true z = let n : _≡_ {A = ℕ} 0 1 = ap (λ b. cond b 1 0) z in omega arith
