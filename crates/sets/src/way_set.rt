@@ -2,7 +2,7 @@ ghost use mathlib.Core.Path.{_≡_};
 ghost use mathlib.Core.Bool.{false, _&&_, _||_};
 ghost use Prim.Native.Nat.{ℕ, _-_};
 ghost use lib.Dec.{eqb, leb, ltb};
-ghost use Rattle.sets.specs.Sets.{names, nameless};
+ghost use Rattle.sets.specs.Sets.{names, nameless, noWays, withWay};
 
 // A set of ways, out of 0 to 7.
 #[derive(Clone, Copy, PartialEq, Eq, Debug)]
@@ -13,7 +13,8 @@ pub struct WaySet {
 impl WaySet {
     // The set without a way.
     pub fn empty() -> WaySet
-        ensures { λ r. ⌜ ((w : ℕ) → names r w ≡ false) ⌝ }
+        ensures members { λ r. ⌜ ((w : ℕ) → names r w ≡ false) ⌝ }
+        ensures value { λ r. ⌜ r ≡ noWays ⌝ }
     {
         WaySet { bits: 0 }
     }
@@ -34,7 +35,8 @@ impl WaySet {
 
     // The set with one way more; no way past 7 comes in.
     pub fn with(self, way: u8) -> WaySet
-        ensures { λ r. ⌜ ((w : ℕ) → names r w ≡ (names self w || (eqb way w && ltb w 8))) ⌝ }
+        ensures members { λ r. ⌜ ((w : ℕ) → names r w ≡ (names self w || (eqb way w && ltb w 8))) ⌝ }
+        ensures value { λ r. ⌜ r ≡ withWay self way ⌝ }
     {
         if way < 8 {
             WaySet {
@@ -67,7 +69,7 @@ impl WaySet {
                 bits: self.bits << k,
             }
         } else {
-            WaySet { bits: 0 }
+            WaySet::empty()
         }
     }
 }

@@ -7,7 +7,3 @@ use Rattle.sets.proofs.task_set.TaskSet.with.Needs as need
 pub returns-then-task-lt16 : need.returns-then-task-lt16
 unfolding holds
 returns-then-task-lt16 c k = let e = member-with (c .args .self .bits) (c .args .task) 16 k (c .if-task-lt16 .taken) in grind (arith, tells)
-
-pub returns-else-task-lt16 : need.returns-else-task-lt16
-unfolding holds
-returns-else-task-lt16 c k = grind (arith, tells)

@@ -1,8 +1,8 @@
-use native.Mathlib.Omega.{arith}
-use Rattle.sets.specs.Sets.{names}
-use Rattle.sets.proofs.Members.{member-zero}
+use mathlib.Core.Path.{refl}
+use Rattle.sets.specs.Sets.{names, noWays}
+use Rattle.sets.proofs.Ways.{names-none}
 use Rattle.sets.proofs.way_set.WaySet.empty.Needs as need
 
 pub returns : need.returns
-unfolding names
-returns c w = let z = member-zero w in grind arith
+unfolding names noWays
+returns c = record { members = names-none; value = refl }
