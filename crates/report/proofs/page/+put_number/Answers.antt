@@ -23,6 +23,6 @@ returns-then-n-lt10 t c = record { place = omega (arith, length-digit (c .args .
 
 pub returns-else-n-lt10 : need.returns-else-n-lt10
 returns-else-n-lt10 t c = record {
-    place = omega (arith, length-step (c .args .n) (omega arith) (omega arith));
-    after = more (c .args .buf .now) _ _ (c .args .at) _ (decimal (c .args .n / 10)) ((48 + c .args .n % 10) ∷ []) (omega arith) (c .put-number-next .ensures .after) (c .put-number-next .ensures .place) (c .put-byte-else-n-lt10 .ensures .after) ∙ ap (put _ _) (sym (decimal-step (c .args .n) (omega arith) (omega arith)));
-  }
+  place = omega (arith, length-step (c .args .n) (omega arith) (omega arith));
+  after = more (c .args .buf .now) _ _ (c .args .at) _ (decimal (c .args .n / 10)) ((48 + c .args .n % 10) ∷ []) (omega arith) (c .put-number-next .ensures .after) (c .put-number-next .ensures .place) (c .put-byte-else-n-lt10 .ensures .after) ∙ ap (put _ _) (sym (decimal-step (c .args .n) (omega arith) (omega arith)));
+}
