@@ -1,0 +1,4 @@
+pub mod Rising
+pub mod Find
+pub mod Answer
+pub mod Pieces
