@@ -1,7 +1,8 @@
 -- The floor that a table of tasks and the costs of the ways make.
 use mathlib.Core.Bool.{Bool, true, false}
 use mathlib.Core.List.{List, [], _∷_}
-use Prim.Native.Nat.{ℕ, zero, suc}
+use mathlib.Core.Path.{_≡_}
+use Prim.Native.Nat.{ℕ, zero, suc, _<_}
 use Rattle.sets.specs.Sets.{names}
 use Rattle.taskset.specs.declared.task.Figures.{Figures}
 use Rattle.taskset.specs.declared.task.Kind.{Kind}
@@ -34,3 +35,12 @@ floorOf t cost = record {
   noleak = t .noleak;
   cost = cost;
 }
+
+-- x are the figures of task i of the floor
+pub record FiguresOf (f : Floor) (i : ℕ) (x : Figures) : Type 0 where
+  pub listed : i < f .tasks
+  pub period : x .period ≡ f .period i
+  pub budget : x .budget ≡ f .budget i
+  pub deadline : x .deadline ≡ f .deadline i
+  pub whole : isWhole (x .kind) ≡ f .whole i
+  pub uses : (w : ℕ) → names (x .ways) w ≡ f .uses i w

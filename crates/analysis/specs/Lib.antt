@@ -2,4 +2,15 @@ pub mod Sums
 pub mod Floor
 pub mod Charges
 pub mod Bounds
+pub mod Least
 pub mod FloorOf
+pub mod Costs
+pub mod Priced
+pub mod PlanOf
+pub mod Faults
+pub mod Verdict
+pub mod After
+pub mod Rows
+pub mod Sheets
+pub mod Rivals
+pub mod Demands

@@ -1,2 +1,3 @@
 // The report on a floor: its text read and analysed, and each task's bound and slack, or why there is none, as bytes in a lent buffer.
 mod page;
+mod rows;

@@ -25,7 +25,7 @@ fn put_bytes(buf: &mut [u8], at: usize, bytes: &[u8]) -> usize
     end
 }
 
-fn put_number(buf: &mut [u8], at: usize, n: u32) -> usize
+fn put_number(buf: &mut [u8], at: usize, n: u64) -> usize
     requires { ⌜ at + length (decimal n) ≤ length (now buf) ⌝ }
     ensures place { λ r. ⌜ r ≡ at + length (decimal n) ⌝ }
     ensures after { λ _. ⌜ now (buf .exit) ≡ put (now (buf .entry)) at (decimal n) ⌝ }
@@ -39,7 +39,7 @@ fn put_number(buf: &mut [u8], at: usize, n: u32) -> usize
 }
 
 // The line of a task: a word, two numbers, each apart by a space, and the line's end.
-pub fn put_row(buf: &mut [u8], at: usize, word: &[u8], first: u32, second: u32) -> usize
+pub fn put_row(buf: &mut [u8], at: usize, word: &[u8], first: u64, second: u64) -> usize
     requires { ⌜ at + length (row (now word) first second) ≤ length (now buf) ⌝ }
     ensures place { λ r. ⌜ r ≡ at + length (row (now (word .entry)) first second) ⌝ }
     ensures after { λ _. ⌜ now (buf .exit) ≡ put (now (buf .entry)) at (row (now (word .entry)) first second) ⌝ }

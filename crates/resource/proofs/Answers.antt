@@ -1,6 +1,6 @@
 -- The two answers to a scrub call, told apart.
 use mathlib.Core.Path.{_≡_, refl}
-use mathlib.Core.Bool.{Bool, true, false}
+use mathlib.Core.Bool.{true, false}
 use Rattle.resource.specs.declared.answer.Progress.{Progress}
 use Rattle.resource.specs.declared.answer.Progress.the-variants.{Done, UnderWay}
 use Rattle.resource.specs.Answers.{isDone}

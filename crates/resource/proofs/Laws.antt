@@ -1,17 +1,14 @@
 -- What the sentences give.
-use mathlib.Core.Path.{_≡_, refl, sym, _∙_, ap}
-use mathlib.Core.Bool.{Bool, true, false, not}
-use mathlib.Core.Logic.{_⊎_, inl, inr, ⊎-elim}
-use Prim.Native.Nat.{ℕ, suc, _+_, _<_, _≤_}
+use mathlib.Core.Path.{_≡_, refl, sym, _∙_, subst}
+use mathlib.Core.Bool.{false}
+use mathlib.Core.Logic.{inl, inr}
+use Prim.Native.Nat.{ℕ, suc, _+_}
 use native.Mathlib.Omega.{arith}
-use lib.Dec.{ltb, leb}
-use Rattle.std.proofs.shelf.Ways.{tells, leb-tells}
-use Rattle.sets.specs.Below.{someBelow}
-use Rattle.resource.specs.declared.answer.Progress.{Progress}
+use Rattle.std.proofs.shelf.Ways.{eqb-tells}
 use Rattle.resource.specs.declared.answer.Progress.the-variants.{Done, UnderWay}
-use Rattle.resource.specs.Seen.{Seen, Sound, Fixed, Kept, ScrubOn, clean}
-use Rattle.resource.specs.Meaning.{Meaning, Scrubbed}
-use Rattle.resource.specs.Until.{UntilDone, last, more, Emptied}
+use Rattle.resource.specs.Seen.{Seen, Sound, Fixed, Kept, ScrubOn}
+use Rattle.resource.specs.Meaning.{Meaning}
+use Rattle.resource.specs.Until.{UntilDone, last, more, Emptied, ClearedBelow}
 
 pub kept-same : (x : Seen) (w : ℕ) → Kept x x w
 kept-same x w = record { traces = λ k. refl; left = refl }
@@ -61,3 +58,19 @@ emptied-more x way y n z h e =
 pub until-emptied : {S : Type 0} (m : Meaning S) (way : ℕ) {s : S} {n : ℕ} {t : S} → UntilDone m way s n t → Emptied (m .seen s) way n (m .seen t)
 until-emptied m way {s} {n} {t} (last h) = emptied-last (m .seen s) way (m .seen t) (h .within)
 until-emptied m way {s} {n} {t} (more {u = u} {n = k} h r) = emptied-more (m .seen s) way (m .seen u) k (m .seen t) (h .within) (until-emptied m way r)
+
+pub cleared-none : (x : Seen) → Sound x → ClearedBelow 0 x x
+cleared-none x ok = record { before = ok; after = ok; fixed = fixed-same x; bare = λ w k l. absurd (omega arith) }
+
+-- one way more
+pub cleared-next : (n : ℕ) (x y : Seen) (calls : ℕ) (z : Seen) → ClearedBelow n x y → Emptied y n calls z → ClearedBelow (n + 1) x z
+cleared-next n x y calls z c e = record {
+  before = c .before;
+  after = e .after;
+  fixed = fixed-more x y z (c .fixed) (e .fixed);
+  bare = λ w k l.
+      elim (eqb-tells w n) [
+        | inl p ↦ subst (λ (v : ℕ). z .traces v k ≡ false) (sym (p .1)) (e .bare k)
+        | inr p ↦ e .other w (p .1) .traces k ∙ c .bare w k (omega (arith, p .1))
+      ];
+}

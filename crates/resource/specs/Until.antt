@@ -1,8 +1,7 @@
 -- Scrubbing a way until it is done.
 use mathlib.Core.Path.{_≡_}
-use mathlib.Core.Bool.{true, false}
+use mathlib.Core.Bool.{false}
 use Prim.Native.Nat.{ℕ, suc, _<_, _≤_, min}
-use Rattle.resource.specs.declared.answer.Progress.{Progress}
 use Rattle.resource.specs.declared.answer.Progress.the-variants.{Done, UnderWay}
 use Rattle.resource.specs.Seen.{Seen, Sound, Fixed, Kept}
 use Rattle.resource.specs.Meaning.{Meaning, Scrubbed}
@@ -30,3 +29,27 @@ pub record ScrubbedDone {S : Type 0} (m : Meaning S) (s : S) (way answer : ℕ) 
   pub made : UntilDone m way s calls t
   pub law : Emptied (m .seen s) way calls (m .seen t)
   pub count : answer ≡ min calls 4294967295
+
+-- the ways 0 to n − 1 in rising order, each scrubbed until done before the next, and no other call
+pub data EachDone {S : Type 0} (m : Meaning S) (s : S) : ℕ → S → Type 0 where
+  none : EachDone m s 0 s
+  next : {u t : S} {n calls : ℕ} → EachDone m s n u → UntilDone m n u calls t → EachDone m s (suc n) t
+
+-- the law: none of the ways below n holds a trace
+pub record ClearedBelow (n : ℕ) (x y : Seen) : Type 0 where
+  pub before : Sound x
+  pub after : Sound y
+  pub fixed : Fixed x y
+  pub bare : (w k : ℕ) → w < n → y .traces w k ≡ false
+
+-- no way at all holds one
+pub record Cleared (x y : Seen) : Type 0 where
+  pub before : Sound x
+  pub after : Sound y
+  pub fixed : Fixed x y
+  pub bare : (w k : ℕ) → y .traces w k ≡ false
+
+-- every way scrubbed until done, and what that comes to
+pub record EveryWayDone {S : Type 0} (m : Meaning S) (s t : S) : Type 0 where
+  pub made : EachDone m s (m .seen s .ways) t
+  pub law : Cleared (m .seen s) (m .seen t)

@@ -47,7 +47,7 @@ pub next-ok : {A B E : Type 0} (r : Result A E) (k : A → Result B E) (u : B) �
 next-ok (Ok a) k u e = (a, refl, e)
 next-ok (Err f) k u e = err-ok e
 
--- a test with a value, against the bare test
-pub test-step : {A B E : Type 0} (b : Bool) (v : A) (e : E) (k : A → Result B E) (x : Result (Unit {0}) E) (l : Unit {0} → Result B E) → k v ≡ next x l → next (cond b (Ok v) (Err e)) k ≡ next (cond b x (Err e)) l
-test-step true v e k x l h = h
-test-step false v e k x l h = refl
+-- an answer by a test with a value, against the bare test
+pub test-step : {A B E : Type 0} (r : Result A E) (b : Bool) (v : A) (e : E) (k : A → Result B E) (x : Result (Unit {0}) E) (l : Unit {0} → Result B E) → r ≡ cond b (Ok v) (Err e) → k v ≡ next x l → next r k ≡ next (cond b x (Err e)) l
+test-step r true v e k x l q h = ap (λ y. next y k) q ∙ h
+test-step r false v e k x l q h = ap (λ y. next y k) q

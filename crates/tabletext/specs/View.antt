@@ -3,9 +3,6 @@ use mathlib.Core.Path.{_≡_}
 use mathlib.Core.List.{List, [], _∷_}
 use Rattle.std.specs.declared.result.Result.{Result}
 use Rattle.std.specs.declared.result.Result.the-variants.{Ok, Err}
-use Rattle.taskset.specs.declared.draft.Draft.{Draft}
-use Rattle.taskset.specs.Table.{Table}
-use Rattle.taskset.specs.View.{table}
 use Rattle.textparts.specs.Spans.{Span}
 use Rattle.textparts.specs.Tokens.{Token}
 use Rattle.textparts.specs.View.{spanOf, tokenOf}
@@ -51,8 +48,3 @@ pairOfs (Err e) = Err e
 abbrev pub Needed : Result Piece LineFault → List Token → List Token → Type 0
 Needed (Ok p) ts us = ts ≡ tokenOf p ∷ us
 Needed (Err e) ts us = (ts ≡ []) × (e ≡ OddLine)
-
--- the table of a draft that is handed out
-abbrev pub tabled : {E : Type 0} → Result Draft E → Result Table E
-tabled (Ok d) = Ok (table d)
-tabled (Err e) = Err e

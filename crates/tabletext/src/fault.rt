@@ -38,16 +38,16 @@ pub enum TextFault {
 pub impl From<DraftFault> for LineFault as LineFaultFromDraft {
     ghost converts = { λ f r. r ≡ ofDraft f };
 
-    fn from(fault: DraftFault) -> LineFault {
-        LineFault::Draft(fault)
+    fn from(said: DraftFault) -> LineFault {
+        LineFault::Draft(said)
     }
 }
 
 pub impl From<FaultAt> for TextFault as TextFaultFromLine {
     ghost converts = { λ f r. r ≡ ofLine f };
 
-    fn from(fault: FaultAt) -> TextFault {
-        TextFault::Line(fault)
+    fn from(line: FaultAt) -> TextFault {
+        TextFault::Line(line)
     }
 }
 

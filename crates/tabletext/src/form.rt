@@ -6,7 +6,6 @@ ghost use Rattle.tabletext.specs.View.{Needed, tasked, pairOfs, formed};
 use crate::fault::LineFault;
 use textparts::part::Piece;
 use textparts::reader::Reader;
-use textparts::shapes;
 
 // The pieces after `task`.
 #[derive(Clone, Copy)]
@@ -86,9 +85,9 @@ pub fn of_line<'a>(reader: &mut Reader<'a>) -> Result<Form<'a>, LineFault>
         Some(Piece::Remark(_)) => Ok(Form::Skipped),
         Some(Piece::Number(_, _)) => Err(LineFault::OddLine),
         Some(Piece::Word(word)) => {
-            if shapes::same(word.bytes, b"task") {
+            if word.is(b"task") {
                 Ok(Form::Task(task_pieces(reader)?))
-            } else if shapes::same(word.bytes, b"noleak") {
+            } else if word.is(b"noleak") {
                 Ok(Form::Noleak(pair_pieces(reader)?))
             } else {
                 Err(LineFault::OddLine)

@@ -23,15 +23,14 @@ use taskset::task::Task;
 use textparts::bytes::Class;
 use textparts::part::Part;
 use textparts::reader::Reader;
-use textparts::shapes;
 
 // The number of the first task of that name.
-fn find(draft: &Draft, text: &[u8], name: &[u8]) -> Option<u8>
-    ensures { λ r. ⌜ r ≡ findFrom (now (text .entry)) 0 (table (now (draft .entry)) .tasks) (now (name .entry)) ⌝ }
+fn find(draft: &Draft, text: &[u8], name: Part<'_>) -> Option<u8>
+    ensures { λ r. ⌜ r ≡ findFrom (now (text .entry)) 0 (table (now (draft .entry)) .tasks) (spanOf (name .entry) .bytes) ⌝ }
 {
     for i in 0..draft.count() {
         if let Ok(taken) = draft.name(i, text) {
-            if shapes::same(taken, name) {
+            if name.is(taken) {
                 return Some(i);
             }
         }
@@ -42,7 +41,7 @@ fn find(draft: &Draft, text: &[u8], name: &[u8]) -> Option<u8>
 fn fresh_name(draft: &Draft, text: &[u8], name: Part<'_>) -> Result<(), LineFault>
     ensures { λ r. ⌜ r ≡ fresh (now (text .entry)) (table (now (draft .entry))) (spanOf (name .entry)) ⌝ }
 {
-    match find(draft, text, name.bytes) {
+    match find(draft, text, name) {
         Some(_) => Err(LineFault::TwiceNamed(name.place)),
         None => Ok(()),
     }
@@ -51,7 +50,7 @@ fn fresh_name(draft: &Draft, text: &[u8], name: Part<'_>) -> Result<(), LineFaul
 fn known_name(draft: &Draft, text: &[u8], name: Part<'_>) -> Result<u8, LineFault>
     ensures { λ r. ⌜ r ≡ known (now (text .entry)) (table (now (draft .entry))) (spanOf (name .entry)) ⌝ }
 {
-    find(draft, text, name.bytes).ok_or(LineFault::Unnamed(name.place))
+    find(draft, text, name).ok_or(LineFault::Unnamed(name.place))
 }
 
 // The draft's own calls, by what they make of its table.

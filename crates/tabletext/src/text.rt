@@ -4,8 +4,8 @@ ghost use Rattle.refusal.specs.Outcome.{after, answered};
 ghost use Rattle.taskset.specs.Table.{nothing};
 ghost use Rattle.taskset.specs.View.{table};
 ghost use Rattle.textparts.specs.Spans.{lines};
+ghost use Rattle.tabletext.specs.Laws.{ReadLaws};
 ghost use Rattle.tabletext.specs.Lines.{outcome};
-ghost use Rattle.tabletext.specs.View.{tabled};
 ghost use Rattle.tabletext.specs.Read.{placed, readLines, readText};
 use crate::fault::FaultAt;
 use crate::fault::LineFault;
@@ -35,24 +35,44 @@ fn read_lines(text: &[u8], draft: &mut Draft) -> Result<(), TextFault>
     Ok(())
 }
 
-// A text as a draft of its own.
-fn drafted(text: &[u8]) -> Result<Draft, TextFault>
-    ensures { λ r. ⌜ tabled r ≡ readText (now (text .entry)) ⌝ }
+// What reading a text answers, and the draft that it leaves: an empty one where the text is refused.
+#[derive(Drop)]
+struct Reading {
+    answer: Result<(), TextFault>,
+    draft: Draft,
+}
+
+fn read_fresh(text: &[u8]) -> Reading
+    ensures answer { λ r. ⌜ r .answer ≡ answered tt (readText (now (text .entry))) ⌝ }
+    ensures later { λ r. ⌜ table (r .draft) ≡ after nothing (readText (now (text .entry))) ⌝ }
+    ensures laws { λ r. ⌜ ReadLaws (now (text .entry)) (r .answer) (table (r .draft)) ⌝ }
 {
     if text.len() > 8192 {
-        return Err(TextFault::LongText);
+        return Reading {
+            answer: Err(TextFault::LongText),
+            draft: Draft::empty(),
+        };
     }
-    let mut fresh = Draft::empty();
-    read_lines(text, &mut fresh)?;
-    Ok(fresh)
+    let mut draft = Draft::empty();
+    match read_lines(text, &mut draft) {
+        Ok(()) => Reading {
+            answer: Ok(()),
+            draft,
+        },
+        Err(fault) => Reading {
+            answer: Err(fault),
+            draft: Draft::empty(),
+        },
+    }
 }
 
 // Reads a text into the draft, whatever that held; a refused text leaves it empty.
 pub fn read(text: &[u8], draft: &mut Draft) -> Result<(), TextFault>
     ensures answer { λ r. ⌜ r ≡ answered tt (readText (now (text .entry))) ⌝ }
     ensures later { λ _. ⌜ table (now (draft .exit)) ≡ after nothing (readText (now (text .entry))) ⌝ }
+    ensures laws { λ r. ⌜ ReadLaws (now (text .entry)) r (table (now (draft .exit))) ⌝ }
 {
-    *draft = Draft::empty();
-    *draft = drafted(text)?;
-    Ok(())
+    let reading = read_fresh(text);
+    *draft = reading.draft;
+    reading.answer
 }

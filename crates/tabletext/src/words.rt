@@ -2,7 +2,7 @@
 ghost use mathlib.Core.Path.{_≡_};
 ghost use mathlib.Core.Bool.{cond};
 ghost use Rattle.std.specs.declared.option.Option.the-variants.{Some, None};
-ghost use Rattle.textparts.specs.View.{tokenOf};
+ghost use Rattle.textparts.specs.View.{spanOf, tokenOf};
 ghost use Rattle.tabletext.specs.View.{spanned};
 ghost use Rattle.tabletext.specs.Words.{isWays, waysOf, isKind, kindOf, nameWord, numberWord, waysWord, kindWord};
 use crate::fault::LineFault;
@@ -32,12 +32,12 @@ pub fn ways(bytes: &[u8]) -> Option<WaySet>
 }
 
 // The kind that a word writes.
-pub fn kind(bytes: &[u8]) -> Option<Kind>
-    ensures { λ r. ⌜ r ≡ cond (isKind (now (bytes .entry))) (Some (kindOf (now (bytes .entry)))) None ⌝ }
+pub fn kind(word: Part<'_>) -> Option<Kind>
+    ensures { λ r. ⌜ r ≡ cond (isKind (spanOf (word .entry) .bytes)) (Some (kindOf (spanOf (word .entry) .bytes))) None ⌝ }
 {
-    if shapes::same(bytes, b"split") {
+    if word.is(b"split") {
         Some(Kind::Split)
-    } else if shapes::same(bytes, b"whole") {
+    } else if word.is(b"whole") {
         Some(Kind::Whole)
     } else {
         None
@@ -82,5 +82,5 @@ pub fn kind_word(piece: Piece<'_>) -> Result<Kind, LineFault>
     ensures { λ r. ⌜ r ≡ kindWord (tokenOf (piece .entry)) ⌝ }
 {
     let part = piece.part();
-    kind(part.bytes).ok_or(LineFault::OddWord(part.place))
+    kind(part).ok_or(LineFault::OddWord(part.place))
 }

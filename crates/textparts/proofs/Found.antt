@@ -18,8 +18,8 @@ use Rattle.textparts.specs.Bytes.{has, each}
 use Rattle.textparts.specs.Spans.{Span, at, lines, words}
 use Rattle.textparts.specs.Tokens.{Token, remark, told, pieces, hashed}
 use Rattle.textparts.specs.Laws.{ends, gap, opens, closes, LineIn, PieceIn, RemarkIn}
-use Rattle.textparts.proofs.Runs.{run-each, each-drop}
-use Rattle.textparts.proofs.Steps.{next-line, next-word, no-word, past-spaces, past}
+use Rattle.textparts.proofs.Runs.{run-each, each-drop, true-not-false}
+use Rattle.textparts.proofs.Steps.{no-line, next-line, next-word, no-word, past-spaces, past}
 use Rattle.textparts.proofs.Standing.{line-stops, line-in, next-opens, left-past, word-stops, word-in, told-in, remark-in}
 
 -- `&text[p..]`
@@ -190,3 +190,20 @@ remark-stands t a e s ae et sl whole uncut ended es h =
 pub plain-left : (fresh : Bool) (a s : ℕ) (u : List ℕ) → s ≡ leading (has Space) u → (fresh ≡ true → false ≡ hashed (take (length u - s) (drop s u))) → cond fresh (pieces a u) (map told (words a u)) ≡ map told (words a u)
 plain-left true a s u e h = fresh-plain a s u e (h refl)
 plain-left false a s u e h = refl
+
+-- whether a remark stands at the front, as the code asks
+pub ahead : (fresh : Bool) (s : ℕ) (u : List ℕ) → s ≡ leading (has Space) u → (fresh && hashed (drop (leading (has Space) u) u)) ≡ (fresh && hashed (take (length u - s) (drop s u)))
+ahead fresh s u e = ap (λ k. fresh && hashed (drop k u)) (sym e) ∙ ap (λ xs. fresh && hashed xs) (sym (rest-of u s))
+
+pub ahead-yes : (fresh : Bool) (s : ℕ) (u : List ℕ) → s ≡ leading (has Space) u → (fresh && hashed (drop (leading (has Space) u) u)) ≡ true → (fresh ≡ true) × (true ≡ hashed (take (length u - s) (drop s u)))
+ahead-yes true s u e h = (refl, sym h ∙ ahead true s u e)
+ahead-yes false s u e h = absurd (true-not-false (sym h))
+
+pub ahead-no : (fresh : Bool) (s : ℕ) (u : List ℕ) → s ≡ leading (has Space) u → (fresh && hashed (drop (leading (has Space) u) u)) ≡ false → fresh ≡ true → false ≡ hashed (take (length u - s) (drop s u))
+ahead-no true s u e h f = sym h ∙ ahead true s u e
+ahead-no false s u e h f = absurd (true-not-false (sym f))
+
+-- no line after the last
+pub none-left : (t : List ℕ) (p : ℕ) → cond (eqb p (length t)) (lines p (drop p t) ≡ []) (Unit {0})
+none-left t p =
+    (elim (eqb p (length t)) as (λ b. eqb p (length t) ≡ b → cond b (lines p (drop p t) ≡ []) (Unit {0})) [ true ↦ λ e. let end : length t ≤ p = grind (arith, tells) in no-line t p end | false ↦ λ e. tt ]) refl

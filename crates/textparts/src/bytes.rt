@@ -1,6 +1,7 @@
 // The classes of bytes that a text is cut by, and the longest run of one class at the front of some bytes.
 ghost use mathlib.Core.Path.{_≡_};
 ghost use Prim.Native.Nat.{_≤_};
+ghost use lib.Dec.{eqb};
 ghost use lib.ListN.{length};
 ghost use Rattle.std.specs.shelf.Lists.{leading};
 ghost use Rattle.textparts.specs.Bytes.{has, each};
@@ -42,6 +43,7 @@ impl Class {
     pub fn run(self, bytes: &[u8]) -> usize
         ensures count { λ r. ⌜ r ≡ leading (has self) (now (bytes .entry)) ⌝ }
         ensures within { λ r. ⌜ r ≤ length (now (bytes .entry)) ⌝ }
+        ensures whole { λ r. ⌜ eqb r (length (now (bytes .entry))) ≡ each (has self) (now (bytes .entry)) ⌝ }
     {
         let mut n = 0;
         while n < bytes.len() && self.has(bytes[n]) {

@@ -1,4 +1,5 @@
 ghost use mathlib.Core.Path.{_≡_};
+ghost use Rattle.std.specs.shelf.Text.{sameBytes};
 ghost use Rattle.textparts.specs.Tokens.{span, told};
 ghost use Rattle.textparts.specs.View.{spanOf, tokenOf};
 use crate::shapes;
@@ -8,6 +9,22 @@ use crate::shapes;
 pub struct Part<'a> {
     pub place: usize,
     pub bytes: &'a [u8],
+}
+
+// Are these the same bytes?
+fn same(a: &[u8], b: &[u8]) -> bool
+    ensures { λ r. ⌜ r ≡ sameBytes (now (a .entry)) (now (b .entry)) ⌝ }
+{
+    a == b
+}
+
+impl<'a> Part<'a> {
+    // Is the part this word?
+    pub fn is(self, word: &[u8]) -> bool
+        ensures { λ r. ⌜ r ≡ sameBytes (spanOf (self .entry) .bytes) (now (word .entry)) ⌝ }
+    {
+        same(self.bytes, word)
+    }
 }
 
 // A piece of a line. Each case holds the part of the text that it is.

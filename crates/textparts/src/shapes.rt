@@ -4,7 +4,6 @@ ghost use mathlib.Core.Bool.{true, cond};
 ghost use Prim.Native.Nat.{_≤_};
 ghost use lib.ListN.{length};
 ghost use Rattle.std.specs.declared.option.Option.the-variants.{Some, None};
-ghost use Rattle.std.specs.shelf.Text.{sameBytes};
 ghost use Rattle.textparts.specs.declared.bytes.Class.the-variants.{Digit};
 ghost use Rattle.textparts.specs.Bytes.{has, each};
 ghost use Rattle.textparts.specs.Shapes.{isName, isNumber, worth};
@@ -49,11 +48,4 @@ pub fn number(bytes: &[u8]) -> Option<u32>
     } else {
         Some(worth_of(bytes))
     }
-}
-
-// Are these the same bytes?
-pub fn same(a: &[u8], b: &[u8]) -> bool
-    ensures { λ r. ⌜ r ≡ sameBytes (now (a .entry)) (now (b .entry)) ⌝ }
-{
-    a == b
 }

@@ -1,12 +1,13 @@
 ghost use mathlib.Core.Path.{_≡_};
 ghost use mathlib.Core.List.{[], _∷_};
+ghost use mathlib.Core.Bool.{true, false, cond};
 ghost use Prim.Native.Nat.{_+_, _^_, _<_};
 ghost use lib.ListN.{length};
 ghost use Rattle.std.specs.Options.{Cases};
-ghost use Rattle.textparts.specs.Laws.{LineIn, PieceIn};
+ghost use Rattle.textparts.specs.Laws.{LineIn, PieceIn, RemarkIn};
 ghost use Rattle.textparts.specs.Spans.{lines};
-ghost use Rattle.textparts.specs.Tokens.{pieces, hashed};
-ghost use Rattle.textparts.specs.View.{spanOf, tokenOf, textOf, toCome, left};
+ghost use Rattle.textparts.specs.Tokens.{remark, told, pieces, hashed};
+ghost use Rattle.textparts.specs.View.{spanOf, tokenOf, textOf, toCome, left, done, remarked};
 use super::Reader;
 use crate::bytes::Class;
 use crate::part::Part;
@@ -36,17 +37,22 @@ impl<'a> Reader<'a> {
         }
     }
 
-    // The next line, whose pieces `next_piece` then hands out.
-    pub fn next_line(&mut self) -> Option<Part<'a>>
-        ensures steps { λ r. ⌜ Cases r ((toCome (now (self .entry)) ≡ []) × (toCome (now (self .exit)) ≡ []) × (left (now (self .exit)) ≡ left (now (self .entry)))) (λ l. (toCome (now (self .entry)) ≡ spanOf l ∷ toCome (now (self .exit))) × (left (now (self .exit)) ≡ pieces (l .place) (l .bytes .now))) ⌝ }
-        ensures law { λ r. ⌜ Cases r (Unit {0}) (λ l. LineIn (textOf (now (self .entry))) (spanOf l)) ⌝ }
-        ensures fits { λ r. ⌜ Cases r (Unit {0}) (λ l. l .place + length (l .bytes .now) < 2 ^ 64) ⌝ }
+    // Has the last line been handed out?
+    fn is_done(&self) -> bool
+        ensures value { λ r. ⌜ r ≡ done (now (self .entry)) ⌝ }
+        ensures none { λ r. ⌜ cond r (toCome (now (self .entry)) ≡ []) (Unit {0}) ⌝ }
+    {
+        self.next == self.text.len()
+    }
+
+    fn cut_line(&mut self) -> Part<'a>
+        requires { ⌜ done (now self) ≡ false ⌝ }
+        ensures steps { λ l. ⌜ (toCome (now (self .entry)) ≡ spanOf l ∷ toCome (now (self .exit))) × (left (now (self .exit)) ≡ pieces (l .place) (l .bytes .now)) ⌝ }
+        ensures law { λ l. ⌜ LineIn (textOf (now (self .entry))) (spanOf l) ⌝ }
+        ensures fits { λ l. ⌜ l .place + length (l .bytes .now) < 2 ^ 64 ⌝ }
         ensures same_text { λ _. ⌜ textOf (now (self .exit)) ≡ textOf (now (self .entry)) ⌝ }
     {
         let place = self.next;
-        if place == self.text.len() {
-            return None;
-        }
         let here = &self.text[place..];
         let n = Class::InLine.run(here);
         self.at = place;
@@ -57,9 +63,73 @@ impl<'a> Reader<'a> {
             self.end
         };
         self.fresh = true;
-        Some(Part {
+        Part {
             place,
             bytes: &here[0..n],
+        }
+    }
+
+    // The next line, whose pieces `next_piece` then hands out.
+    pub fn next_line(&mut self) -> Option<Part<'a>>
+        ensures steps { λ r. ⌜ Cases r ((toCome (now (self .entry)) ≡ []) × (toCome (now (self .exit)) ≡ []) × (left (now (self .exit)) ≡ left (now (self .entry)))) (λ l. (toCome (now (self .entry)) ≡ spanOf l ∷ toCome (now (self .exit))) × (left (now (self .exit)) ≡ pieces (l .place) (l .bytes .now))) ⌝ }
+        ensures law { λ r. ⌜ Cases r (Unit {0}) (λ l. LineIn (textOf (now (self .entry))) (spanOf l)) ⌝ }
+        ensures fits { λ r. ⌜ Cases r (Unit {0}) (λ l. l .place + length (l .bytes .now) < 2 ^ 64) ⌝ }
+        ensures same_text { λ _. ⌜ textOf (now (self .exit)) ≡ textOf (now (self .entry)) ⌝ }
+    {
+        if self.is_done() {
+            return None;
+        }
+        Some(self.cut_line())
+    }
+
+    // Does a remark stand at the front of the line, past its spaces?
+    fn has_remark(&self) -> bool
+        ensures { λ r. ⌜ r ≡ remarked (now (self .entry)) ⌝ }
+    {
+        let here = &self.text[self.at..self.end];
+        let skipped = Class::Space.run(here);
+        self.fresh && is_remark(&here[skipped..])
+    }
+
+    // The rest of the line past its spaces, as a remark.
+    fn cut_remark(&mut self) -> Part<'a>
+        requires { ⌜ remarked (now self) ≡ true ⌝ }
+        ensures steps { λ p. ⌜ left (now (self .entry)) ≡ remark (spanOf p) ∷ left (now (self .exit)) ⌝ }
+        ensures law { λ p. ⌜ RemarkIn (textOf (now (self .entry))) (spanOf p) ⌝ }
+        ensures same_lines { λ _. ⌜ toCome (now (self .exit)) ≡ toCome (now (self .entry)) ⌝ }
+        ensures same_text { λ _. ⌜ textOf (now (self .exit)) ≡ textOf (now (self .entry)) ⌝ }
+    {
+        let here = &self.text[self.at..self.end];
+        let skipped = Class::Space.run(here);
+        let place = self.at + skipped;
+        self.fresh = false;
+        self.at = self.end;
+        Part {
+            place,
+            bytes: &here[skipped..],
+        }
+    }
+
+    fn cut_word(&mut self) -> Option<Part<'a>>
+        requires { ⌜ remarked (now self) ≡ false ⌝ }
+        ensures steps { λ r. ⌜ Cases r ((left (now (self .entry)) ≡ []) × (left (now (self .exit)) ≡ [])) (λ w. left (now (self .entry)) ≡ told (spanOf w) ∷ left (now (self .exit))) ⌝ }
+        ensures law { λ r. ⌜ Cases r (Unit {0}) (λ w. PieceIn (textOf (now (self .entry))) (told (spanOf w))) ⌝ }
+        ensures same_lines { λ _. ⌜ toCome (now (self .exit)) ≡ toCome (now (self .entry)) ⌝ }
+        ensures same_text { λ _. ⌜ textOf (now (self .exit)) ≡ textOf (now (self .entry)) ⌝ }
+    {
+        let here = &self.text[self.at..self.end];
+        let skipped = Class::Space.run(here);
+        let place = self.at + skipped;
+        let found = &here[skipped..];
+        let n = Class::InWord.run(found);
+        self.fresh = false;
+        if n == 0 {
+            return None;
+        }
+        self.at = place + n;
+        Some(Part {
+            place,
+            bytes: &found[0..n],
         })
     }
 
@@ -70,27 +140,12 @@ impl<'a> Reader<'a> {
         ensures same_lines { λ _. ⌜ toCome (now (self .exit)) ≡ toCome (now (self .entry)) ⌝ }
         ensures same_text { λ _. ⌜ textOf (now (self .exit)) ≡ textOf (now (self .entry)) ⌝ }
     {
-        let here = &self.text[self.at..self.end];
-        let skipped = Class::Space.run(here);
-        let place = self.at + skipped;
-        let found = &here[skipped..];
-        let first = self.fresh;
-        self.fresh = false;
-        if first && is_remark(found) {
-            self.at = self.end;
-            return Some(Piece::Remark(Part {
-                place,
-                bytes: found,
-            }));
+        if self.has_remark() {
+            return Some(Piece::Remark(self.cut_remark()));
         }
-        let n = Class::InWord.run(found);
-        if n == 0 {
-            return None;
+        match self.cut_word() {
+            Some(word) => Some(Piece::told(word)),
+            None => None,
         }
-        self.at = place + n;
-        Some(Piece::told(Part {
-            place,
-            bytes: &found[0..n],
-        }))
     }
 }

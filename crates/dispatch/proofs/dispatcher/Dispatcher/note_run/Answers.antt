@@ -1,0 +1,62 @@
+use mathlib.Core.Path.{_≡_, refl, sym, ap, _∙_}
+use mathlib.Core.Bool.{Bool, cond}
+use Prim.Native.Nat.{ℕ, _-_, _<_}
+use native.Mathlib.Omega.{arith}
+use lib.Dec.{eqb}
+use lib.ListN.{length, getD, length-set}
+use Rattle.std.specs.Options.{valueOr}
+use Rattle.runs.specs.Calls.{served, put}
+use Rattle.dispatch.specs.View.{floor, stateOf}
+use Rattle.dispatch.proofs.Later.{number-put}
+use Rattle.dispatch.proofs.Optionals.{unless-value, unless-below, below-same}
+use Rattle.dispatch.proofs.Plans.{plan-tasks, plan-few, plan-ways}
+use Rattle.dispatch.proofs.dispatcher.Dispatcher.note_run.Needs as need
+
+pub index-self-task : need.index-self-task
+index-self-task c = let f = plan-few (c .args .self .now .plan) in omega (arith, c .pre)
+
+pub index-self-task-2 : need.index-self-task-2
+index-self-task-2 c = let f = plan-few (c .args .self .now .plan) in omega (arith, c .pre)
+
+pub ghost-self-2 : need.ghost-self-2
+ghost-self-2 c =
+    let d = c .args .self .now in
+    let left = c .saturating-sub-left .result in (
+      c .older-ages-self .ensures .places,
+      (
+        length-set (d .left) (c .args .task) left ∙ d .«left_places»,
+        (
+          c .records-with-self .ensures .places,
+          (
+            below-same _ _ _ (c .unended-unended .ensures) (unless-below (eqb left 0) (c .args .task) _ (omega (arith, plan-tasks (d .plan), c .pre))),
+            (λ k e. let z : _≡_ {A = ℕ} 0 1 = cc in absurd (omega arith), tt),
+          ),
+        ),
+      ),
+    )
+
+pub returns : need.returns
+unfolding stateOf served
+returns c =
+    let d = c .args .self .now in
+    let i = c .args .task in
+    let left = c .saturating-sub-left .result in
+    let few = plan-few (d .plan) in
+    let less : left ≡ getD (d .left) i 0 - 1 = c .saturating-sub-left .ensures in
+    let last : eqb left 0 ≡ eqb (getD (d .left) i 0 - 1) 0 = ap (λ (v : ℕ). eqb v 0) less in
+    let goes : valueOr (c .unended-unended .result) (floor d .tasks) ≡ cond (eqb (getD (d .left) i 0 - 1) 0) (floor d .tasks) i =
+    ap (λ o. valueOr o (floor d .tasks)) (c .unended-unended .ensures) ∙ unless-value (eqb left 0) i (floor d .tasks) ∙ ap (λ (b : Bool). cond b (floor d .tasks) i) last in
+    record {
+      ended = last;
+      later = record {
+        plan = refl;
+        state = record {
+          age = c .older-ages-self .ensures .each;
+          left = λ k l. number-put (d .left) i left (omega (arith, d .«left_places», c .pre)) k ∙ ap (λ (v : ℕ). put (λ j. getD (d .left) j 0) i v k) less;
+          holder = goes;
+          under = refl;
+          ran = goes;
+          recorded = λ w k l m. c .records-with-self .ensures .each w k (omega (arith, plan-ways (d .plan)));
+        };
+      };
+    }

@@ -1,0 +1,15 @@
+pub mod Sums
+pub mod Shape
+pub mod Effects
+pub mod Taint
+pub mod Keep
+pub mod Potential
+pub mod Fall
+pub mod Worked
+pub mod Arrivals
+pub mod Window
+pub mod Schedule
+pub mod Standing
+pub mod Books
+pub mod Account
+pub mod Theorem

@@ -1,0 +1,3 @@
+pub mod Traces
+pub mod Calls
+pub mod Turn

@@ -1,0 +1,3 @@
+pub mod Marks
+pub mod Calls
+pub mod Cache
