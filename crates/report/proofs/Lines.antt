@@ -3,8 +3,7 @@ use mathlib.Core.Path.{_≡_, refl, sym, ap, _∙_}
 use mathlib.Core.List.{List, [], _∷_, _++_}
 use Prim.Native.Nat.{ℕ, zero, suc, _+_, _*_, _^_, _≤_, _<_}
 use native.Mathlib.Omega.{arith}
-use native.Mathlib.Numerals.{add-one}
-use lib.Dec.{lit<}
+use lib.Chars.{codes}
 use lib.ListN.{length, length-append}
 use Rattle.std.proofs.shelf.Decimals.{length-decimal-le}
 use Rattle.std.proofs.shelf.Edits.{paste-none}
@@ -57,3 +56,10 @@ put-none d at = paste-none d at []
 -- one line more
 pub one-more : (d e f : List ℕ) (at next : ℕ) (rows line : List ℕ) → at ≡ length rows → e ≡ put d 0 rows → next ≡ at + length line → f ≡ put e at line → (next ≡ length (rows ++ line)) × (f ≡ put d 0 (rows ++ line))
 one-more d e f at next rows line p q r s = (omega (arith, length-append rows line), more d e f 0 at rows line (omega arith) q (omega arith) s)
+
+-- a refusal's line has at most 45 bytes
+pub refusal-short : (number detail : ℕ) → number < 2 ^ 64 → detail < 2 ^ 64 → length (row (codes "no") number detail) ≤ 45
+refusal-short number detail n d =
+    let dn : length (decimal number) ≤ 20 = length-decimal-le 20 number (omega arith) (omega arith) n in
+    let dd : length (decimal detail) ≤ 20 = length-decimal-le 20 detail (omega arith) (omega arith) d in
+    omega (arith, length-row (codes "no") number detail)

@@ -1,2 +1,4 @@
+pub mod Faults
 pub mod Page
 pub mod Rows
+pub mod Report

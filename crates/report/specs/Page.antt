@@ -5,6 +5,7 @@ use lib.Chars.{codes}
 use lib.ListN.{length}
 use lib.Seq.{paste}
 use Rattle.std.specs.Written.{decimal}
+use Rattle.refusal.specs.Told.{Told}
 
 -- the buffer d with the bytes bs written from place at on
 unfoldable pub put : List ℕ → ℕ → List ℕ → List ℕ
@@ -15,5 +16,5 @@ unfoldable pub row : List ℕ → ℕ → ℕ → List ℕ
 row word first second = ((((word ++ (32 ∷ [])) ++ decimal first) ++ (32 ∷ [])) ++ decimal second) ++ (10 ∷ [])
 
 -- the line that a refusal makes: `no`, its number and its detail
-abbrev pub refusalLine : ℕ → ℕ → List ℕ
-refusalLine number detail = row (codes "no") number detail
+abbrev pub refusalLine : Told → List ℕ
+refusalLine t = row (codes "no") (t .number) (t .detail)

@@ -12,7 +12,15 @@ use crate::page::put_row;
 use taskset::draft::Draft;
 
 // The line of one task.
-fn put_task(buf: &mut [u8], at: usize, text: &[u8], draft: &Draft, i: u8, bound: u32, slack: u32) -> usize
+fn put_task(
+    buf: &mut [u8],
+    at: usize,
+    text: &[u8],
+    draft: &Draft,
+    i: u8,
+    bound: u32,
+    slack: u32,
+) -> usize
     requires room { ⌜ at + 33 ≤ length (now buf) ⌝ }
     requires bound_small { ⌜ bound < 10000000 ⌝ }
     requires slack_small { ⌜ slack < 10000000 ⌝ }

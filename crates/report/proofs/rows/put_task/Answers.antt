@@ -23,7 +23,7 @@ returns-in-Ok c =
     let n = name-short (c .args .text .now) (table (c .args .draft .now) .tasks) (c .args .i) (c .in-Ok .name .now) (c .pre .named) named in
     let l = row-short (c .in-Ok .name .now) (c .from .result) (c .from-in-Ok .result) n (omega (arith, c .from .ensures, c .pre .bound-small)) (omega (arith, c .from-in-Ok .ensures, c .pre .slack-small)) in
     let e : row (c .in-Ok .name .now) (c .from .result) (c .from-in-Ok .result) ≡ rowOf (c .args .text .now) o (c .args .bound) (c .args .slack) =
-        ap₂ (λ (b s : ℕ). row (c .in-Ok .name .now) b s) (c .from .ensures) (c .from-in-Ok .ensures) ∙ row-named (c .args .text .now) o (c .in-Ok .name .now) (c .args .bound) (c .args .slack) named in
+    ap₂ (λ (b s : ℕ). row (c .in-Ok .name .now) b s) (c .from .ensures) (c .from-in-Ok .ensures) ∙ row-named (c .args .text .now) o (c .in-Ok .name .now) (c .args .bound) (c .args .slack) named in
     record {
       place = c .put-row .ensures .place ∙ ap (λ (r : List ℕ). c .args .at + length r) e;
       after = c .put-row .ensures .after ∙ ap (λ (r : List ℕ). put (c .args .buf .now) (c .args .at) r) e;
