@@ -22,18 +22,18 @@ pub fn least<D: Demand>(demand: &D, low: u32, limit: u32) -> Option<u32>
     ensures { λ r. ⌜ BySome r (NoneUpTo (D·Demand .sum (now (demand .entry))) low limit) (λ x. IsLeast (D·Demand .sum (now (demand .entry))) low x × (x ≤ limit)) ⌝ }
 {
     let mut x = low;
-    loop {
+    let found = loop {
         if x > limit {
             return None;
         }
         let need = demand.at(x);
         if need <= u64::from(x) {
-            break;
+            break x;
         }
         if need > u64::from(limit) {
             return None;
         }
         x = need as u32;
-    }
-    Some(x)
+    };
+    Some(found)
 }
