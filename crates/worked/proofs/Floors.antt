@@ -13,6 +13,7 @@ use Rattle.analysis.specs.FloorOf.{floorOf, figuresAt}
 use Rattle.analysis.specs.Verdict.{Bounded, Ready, Verdict, strays, dear}
 use Rattle.worked.specs.Tables.{line, alone, onCache}
 use Rattle.worked.specs.Worked.{Comes, SharedWay, OwnWays, Alone, WorkedFloors}
+use Rattle.worked.proofs.Runs.{run-stands}
 use Rattle.worked.proofs.Computed.{comes, missed, of-none, of-one, of-three, of-two, ready-by, split-by, whole-by}
 
 pick-bound-60 : IsBound (onCache (line 0 0 0 60)) 0 7
@@ -172,4 +173,5 @@ floors-stand = record {
   shared = record { pick = pick-60; seal = seal-60; send = send-60; taken = taken-60; tight = send-59; still = taken-59; late = late };
   own = record { pick = own-pick; seal = own-seal; send = own-send; taken = own-taken };
   alone = record { just = just; taken = alone-taken; long = long };
+  run = run-stands;
 }

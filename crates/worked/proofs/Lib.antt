@@ -1,3 +1,4 @@
 pub mod Computed
 pub mod Floors
 pub mod OneVerdict
+pub mod Runs

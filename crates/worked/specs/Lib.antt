@@ -1,3 +1,4 @@
 pub mod Tables
+pub mod Run
 pub mod Worked
 pub mod OneVerdict

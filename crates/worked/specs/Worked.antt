@@ -6,6 +6,7 @@ use Rattle.analysis.specs.declared.fault.AnalysisFault.the-variants.{NoBound}
 use Rattle.analysis.specs.Bounds.{InTime}
 use Rattle.analysis.specs.Floor.{Floor}
 use Rattle.analysis.specs.Verdict.{Verdict}
+use Rattle.worked.specs.Run.{WorkedRun}
 use Rattle.worked.specs.Tables.{line, alone, onCache}
 
 -- task i of the floor has the bound b, within its deadline, and the slack s
@@ -36,8 +37,9 @@ pub record Alone : Type 0 where
   pub taken : Verdict (onCache (alone 5)) 8 1 (Ok tt)
   pub long : Verdict (onCache (alone 6)) 8 1 (Err (NoBound 0))
 
--- all of them
+-- all of them, and a run
 pub record WorkedFloors : Type 0 where
   pub shared : SharedWay
   pub own : OwnWays
   pub alone : Alone
+  pub run : WorkedRun
