@@ -1,7 +1,10 @@
 use resource::answer::Progress;
+use resource::answer::ProgressDebug;
+use resource::answer::ProgressEq;
+use resource::answer::ProgressPartialEq;
 
 // What the core is to do in a tick, and what came of it.
-#[derive(Clone, Copy)]
+#[derive(Clone, Copy, PartialEq, Eq, Debug)]
 pub enum TickAnswer {
     // No task has a job.
     Rest,

@@ -24,15 +24,15 @@ use Rattle.worked.specs.Tables.{pair, task}
 unfoldable pub tickAnswer : Floor → State → TickAnswer
 tickAnswer f s =
     cond (ltb (chosen f s) (f .tasks))
-      (cond (ltb (scrubWay f s (chosen f s)) (f .ways)) (Scrub (chosen f s) (scrubWay f s (chosen f s)) Done) (Run (chosen f s) (lastTick s (chosen f s))))
-      Rest
+    (cond (ltb (scrubWay f s (chosen f s)) (f .ways)) (Scrub (chosen f s) (scrubWay f s (chosen f s)) Done) (Run (chosen f s) (lastTick s (chosen f s))))
+    Rest
 
 -- and the state that it leaves
 unfoldable pub tickState : Floor → State → State
 tickState f s =
     cond (ltb (chosen f s) (f .tasks))
-      (cond (ltb (scrubWay f s (chosen f s)) (f .ways)) (scrubbed f (chosen f s) (scrubWay f s (chosen f s)) true s) (served f (chosen f s) s))
-      (rested f s)
+    (cond (ltb (scrubWay f s (chosen f s)) (f .ways)) (scrubbed f (chosen f s) (scrubWay f s (chosen f s)) true s) (served f (chosen f s) s))
+    (rested f s)
 
 -- the answers of n ticks in a row
 abbrev pub ticking : ℕ → Floor → State → List TickAnswer
