@@ -17,7 +17,8 @@ use Rattle.analysis.specs.Sums.{firstBelow}
 use Rattle.analysis.specs.FloorOf.{floorOf}
 use Rattle.runs.specs.State.{State, pending, stays, chosen, tainted, scrubWay}
 use Rattle.dispatch.specs.declared.dispatcher.Dispatcher.{Dispatcher}
-use Rattle.dispatch.specs.Optional.{Below, StandsFor}
+use Rattle.dispatch.specs.Later.{FirstJob}
+use Rattle.dispatch.specs.Optional.{StandsFor}
 use Rattle.dispatch.specs.View.{floor, stateOf, recordAt, taskWays}
 use Rattle.dispatch.proofs.Firsts.{first-is, first-none}
 use Rattle.dispatch.proofs.Optionals.{some-in-range, stands-some}
@@ -57,29 +58,20 @@ module _ (d : Dispatcher) where
   unfolding chosen
   chosen-lowest o e h = subst (λ (b : Bool). StandsFor (floor d .tasks) (cond b (stateOf d .holder) (firstBelow (floor d .tasks) (pending (stateOf d)))) o) (sym e) h
 
-  pub pending-some : (k : ℕ) → 0 < getD (d .left) k 0 → pending (stateOf d) k ≡ true
-  unfolding pending stateOf
-  pending-some k l = grind (arith, tells)
-
-  pub pending-none : (k : ℕ) → getD (d .left) k 0 ≡ 0 → pending (stateOf d) k ≡ false
-  unfolding pending stateOf
-  pending-none k e = grind (arith, tells)
-
   -- the first with a job
-  pub pending-first : (i : ℕ) → i < floor d .tasks → 0 < getD (d .left) i 0 → ((k : ℕ) → k < i → getD (d .left) k 0 ≡ 0) → StandsFor (floor d .tasks) (firstBelow (floor d .tasks) (pending (stateOf d))) (Some i)
-  pending-first i l e h = (sym (first-is (floor d .tasks) (pending (stateOf d)) i l (pending-some i e) (λ k m. pending-none k (h k m))), l)
-
-  pub pending-nobody : ((k : ℕ) → k < floor d .tasks → getD (d .left) k 0 ≡ 0) → StandsFor (floor d .tasks) (firstBelow (floor d .tasks) (pending (stateOf d))) None
-  pending-nobody h = let e = first-none (floor d .tasks) (pending (stateOf d)) (λ k m. pending-none k (h k m)) in omega arith
+  pub pending-first : (o : Option ℕ) → FirstJob (d .left) (floor d .tasks) o → StandsFor (floor d .tasks) (firstBelow (floor d .tasks) (pending (stateOf d))) o
+  unfolding pending stateOf
+  pending-first None h = let e = first-none (floor d .tasks) (pending (stateOf d)) h in omega arith
+  pending-first (Some i) h = (sym (first-is (floor d .tasks) (pending (stateOf d)) i (h .0) (h .1) (h .2)), h .0)
 
   pub tainted-unused : (i w : ℕ) → names (taskWays (d .plan) i) w ≡ false → tainted (floor d) (stateOf d) i w ≡ false
   unfolding tainted floorOf
   tainted-unused i w e = grind (arith, tells)
 
-  pub tainted-by : (i w k : ℕ) → names (taskWays (d .plan) i) w ≡ true → k < floor d .tasks → recordAt (d .records) w k ≡ true → floor d .noleak k i ≡ true → tainted (floor d) (stateOf d) i w ≡ true
+  pub tainted-by : (i w k : ℕ) → names (taskWays (d .plan) i) w ≡ true → k < floor d .tasks → (recordAt (d .records) w k && floor d .noleak k i) ≡ true → tainted (floor d) (stateOf d) i w ≡ true
   unfolding tainted stateOf floorOf
-  tainted-by i w k u l r n =
-      let s = some-true (floor d .tasks) (λ j. recordAt (d .records) w j && floor d .noleak j i) k l (grind (arith, r, n)) in
+  tainted-by i w k u l e =
+      let s = some-true (floor d .tasks) (λ j. recordAt (d .records) w j && floor d .noleak j i) k l e in
       grind (arith, tells)
 
   pub tainted-none : (i w : ℕ) → ((k : ℕ) → k < floor d .tasks → (recordAt (d .records) w k && floor d .noleak k i) ≡ false) → tainted (floor d) (stateOf d) i w ≡ false

@@ -19,7 +19,7 @@ first-below (suc n) f e =
     let h = some-at (suc n) f e in
     ⊎-elim
     (λ p. let z = none-at n f s (h .0) (p .1) in let c : _≡_ {A = Bool} true false = sym (h .2) ∙ z in absurd (true-false c))
-    (λ p. let at : h .0 ≡ n = omega (arith, p .1, h .1) in let here : f n ≡ true = ap f (sym at) ∙ h .2 in simp (s, here) (omega arith))
+    (λ p. let at : h .0 ≡ n = omega (arith, p .1, h .1) in let here : f n ≡ true = ap f (sym at) ∙ h .2 in let e : firstBelow (suc n) f ≡ n = simp (s, here) in omega (arith, e))
     (leb-tells (suc (h .0)) n))
     (bool-tells (someBelow n f))
   where
@@ -52,7 +52,6 @@ pub first-past : (n : ℕ) (f : ℕ → Bool) → n ≤ firstBelow n f → (k : 
 first-past n f l k m =
     ⊎-elim
     (λ e.
-    let h = some-at n f (some-true n f k m e) in
     let low = first-below n f (some-true n f k m e) in
     absurd (omega arith))
     (λ e. e)

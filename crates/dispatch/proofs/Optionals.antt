@@ -3,12 +3,12 @@ use mathlib.Core.Path.{_≡_, refl, sym, _∙_}
 use mathlib.Core.Bool.{Bool, true, false, cond}
 use Prim.Native.Nat.{ℕ, _<_, _≤_}
 use native.Mathlib.Omega.{arith}
-use lib.Dec.{ltb}
+use lib.Dec.{eqb, ltb}
 use Rattle.std.specs.declared.option.Option.{Option}
 use Rattle.std.specs.declared.option.Option.the-variants.{Some, None}
 use Rattle.std.specs.Options.{isSome, valueOr}
 use Rattle.std.proofs.shelf.Ways.{tells}
-use Rattle.dispatch.specs.Optional.{Below, StandsFor}
+use Rattle.dispatch.specs.Optional.{Below, StandsFor, isTask}
 
 -- there is one where the number is in range
 pub some-in-range : (n : ℕ) (o : Option ℕ) → Below n o → ltb (valueOr o n) n ≡ isSome o
@@ -31,3 +31,8 @@ unless-below false k n l j e = let s : k ≡ j = cc in omega arith
 
 pub below-same : (n : ℕ) (o p : Option ℕ) → o ≡ p → Below n p → Below n o
 below-same n o p e h k f = h k (sym e ∙ f)
+
+-- it is task i where its number is i
+pub is-task : (n : ℕ) (o : Option ℕ) (i : ℕ) → i < n → eqb (valueOr o n) i ≡ isTask o i
+is-task n None i l = grind (arith, tells)
+is-task n (Some k) i l = refl

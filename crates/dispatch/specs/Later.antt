@@ -1,17 +1,21 @@
 -- What a tick leaves, as the dispatcher's arrays.
 use mathlib.Core.Path.{_≡_}
-use mathlib.Core.Bool.{Bool, _&&_, _||_}
+use mathlib.Core.Bool.{Bool, true, false, _&&_, _||_}
 use mathlib.Core.List.{List}
 use Prim.Native.Nat.{ℕ, _<_}
-use lib.Dec.{eqb}
+use lib.Dec.{eqb, ltb}
 use lib.ListN.{length, getD}
-use Rattle.sets.specs.Sets.{holds}
+use Rattle.std.specs.declared.option.Option.{Option}
+use Rattle.std.specs.declared.option.Option.the-variants.{Some, None}
 use Rattle.sets.specs.declared.task_set.TaskSet.{TaskSet}
-use Rattle.analysis.specs.Floor.{Floor}
-use Rattle.runs.specs.State.{State, Agree}
 use Rattle.runs.specs.Calls.{older}
 use Rattle.dispatch.specs.declared.dispatcher.Dispatcher.{Dispatcher}
 use Rattle.dispatch.specs.View.{floor, stateOf, recordAt}
+
+-- the lowest of the tasks below n that has a job, by what is left of each budget, or none
+abbrev pub FirstJob : List ℕ → ℕ → Option ℕ → Type 0
+FirstJob left n None = (k : ℕ) → k < n → ltb 0 (getD left k 0) ≡ false
+FirstJob left n (Some i) = (i < n) × (ltb 0 (getD left i 0) ≡ true) × ((k : ℕ) → k < i → ltb 0 (getD left k 0) ≡ false)
 
 -- every age after one more tick
 pub record Older (d : Dispatcher) (ages : List ℕ) : Type 0 where
@@ -22,8 +26,3 @@ pub record Older (d : Dispatcher) (ages : List ℕ) : Type 0 where
 pub record RecordsWith (d : Dispatcher) (i : ℕ) (records : List TaskSet) : Type 0 where
   pub places : length records ≡ 8
   pub each : (w k : ℕ) → w < 8 → recordAt records w k ≡ (recordAt (d .records) w k || (eqb k i && floor d .uses i w))
-
--- the dispatcher e has the plan of d, and as its state t
-pub record Leaves (d e : Dispatcher) (t : State) : Type 0 where
-  pub plan : e .plan ≡ d .plan
-  pub state : Agree (floor d) (stateOf e) t

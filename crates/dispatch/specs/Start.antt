@@ -1,12 +1,16 @@
 -- What a start answers, does to the resource, and leaves.
 use mathlib.Core.Path.{_≡_}
 use mathlib.Core.Bool.{Bool, false, cond, not}
-use Prim.Native.Nat.{ℕ, suc}
+use mathlib.Core.List.{List}
+use Prim.Native.Nat.{ℕ, suc, _<_}
 use lib.Dec.{eqb, ltb}
+use lib.ListN.{length, getD, replicate}
+use Rattle.std.specs.declared.option.Option.the-variants.{None}
 use Rattle.std.specs.declared.result.Result.{Result}
 use Rattle.std.specs.declared.result.Result.the-variants.{Ok, Err}
+use Rattle.sets.specs.declared.task_set.TaskSet.{TaskSet}
 use Rattle.resource.specs.Answers.{told16}
-use Rattle.resource.specs.Seen.{Seen, Sound, Fixed}
+use Rattle.resource.specs.Seen.{Seen, Sound}
 use Rattle.resource.specs.Meaning.{Meaning}
 use Rattle.resource.specs.Until.{UntilDone}
 use Rattle.analysis.specs.declared.plan.Plan.{Plan}
@@ -19,6 +23,21 @@ use Rattle.runs.specs.State.{Agree, fresh}
 use Rattle.runs.specs.Run.{Started}
 use Rattle.dispatch.specs.declared.dispatcher.Dispatcher.{Dispatcher}
 use Rattle.dispatch.specs.View.{floor, stateOf}
+
+-- every age is the task's period
+pub record FullAges (p : Plan) (ages : List ℕ) : Type 0 where
+  pub places : length ages ≡ 16
+  pub each : (k : ℕ) → k < planFloor p .tasks → getD ages k 0 ≡ planFloor p .period k
+
+-- a dispatcher of the plan with these ages, nobody holding the core, no job, and the same record on every way
+pub record Idle (p : Plan) (ages : List ℕ) (tasks : TaskSet) (d : Dispatcher) : Type 0 where
+  pub plan : d .plan ≡ p
+  pub full : d .ages ≡ ages
+  pub left : d .left ≡ replicate 16 0
+  pub holder : d .holder ≡ None
+  pub under : d .under ≡ None
+  pub ran : d .«just_run» ≡ None
+  pub records : d .records ≡ replicate 8 tasks
 
 -- the dispatcher's state is that right after a start
 abbrev pub Fresh : Dispatcher → Type 0
@@ -42,11 +61,11 @@ pub data ScrubbedBelow {S : Type 0} (m : Meaning S) (s : S) : ℕ → S → Type
 abbrev pub AllScrubbed : {S : Type 0} → Meaning S → S → S → Type 0
 AllScrubbed m s t = ScrubbedBelow m s (m .seen s .ways) t
 
--- what that comes to: no trace is left anywhere
-pub record Cleared (x y : Seen) : Type 0 where
+-- what that comes to: no trace is left anywhere, and every way's cost, as the resource answers, is the floor's
+pub record Ready (f : Floor) (y : Seen) : Type 0 where
   pub sound : Sound y
-  pub fixed : Fixed x y
   pub bare : (w k : ℕ) → y .traces w k ≡ false
+  pub costs : (w : ℕ) → w < f .ways → told16 (y .cost w) ≡ f .cost w
 
 -- a dispatcher and a resource right after a start of the plan
 pub record Begun {S : Type 0} (m : Meaning S) (p : Plan) (r : S) (e : Dispatcher) (t : S) : Type 0 where

@@ -1,12 +1,20 @@
 // What a plan says of its tasks.
 ghost use mathlib.Core.Path.{_≡_};
-ghost use Prim.Native.Nat.{_<_};
+ghost use Prim.Native.Nat.{_<_, _≤_};
 ghost use Rattle.analysis.specs.FloorOf.{isWhole};
 ghost use Rattle.analysis.specs.PlanOf.{planFloor};
 ghost use Rattle.dispatch.specs.View.{taskFigures};
 use analysis::plan::Plan;
 use taskset::task::Figures;
 use taskset::task::Kind;
+
+// How many tasks the plan has.
+pub fn tasks_of(plan: &Plan) -> u8
+    ensures count { λ r. ⌜ r ≡ planFloor (now (plan .entry)) .tasks ⌝ }
+    ensures few { λ r. ⌜ r ≤ 16 ⌝ }
+{
+    plan.count()
+}
 
 // The figures of a task of the plan.
 pub fn figures(plan: &Plan, task: u8) -> Figures

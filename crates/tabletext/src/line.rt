@@ -25,7 +25,7 @@ use textparts::part::Part;
 use textparts::reader::Reader;
 
 // The number of the first task of that name.
-fn find(draft: &Draft, text: &[u8], name: Part<'_>) -> Option<u8>
+pub fn find(draft: &Draft, text: &[u8], name: Part<'_>) -> Option<u8>
     ensures { λ r. ⌜ r ≡ findFrom (now (text .entry)) 0 (table (now (draft .entry)) .tasks) (spanOf (name .entry) .bytes) ⌝ }
 {
     for i in 0..draft.count() {

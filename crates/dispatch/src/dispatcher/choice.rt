@@ -1,6 +1,8 @@
 // Who has the next tick, and which way is scrubbed for it.
 ghost use mathlib.Core.Path.{_≡_};
+ghost use mathlib.Core.Bool.{_&&_};
 ghost use Prim.Native.Nat.{_<_};
+ghost use Rattle.sets.specs.Sets.{holds};
 ghost use Rattle.analysis.specs.Sums.{firstBelow};
 ghost use Rattle.runs.specs.State.{pending, stays as keepsCore, chosen as chosenTask, tainted, scrubWay};
 ghost use Rattle.dispatch.specs.Optional.{StandsFor};
@@ -9,6 +11,8 @@ use super::Dispatcher;
 use crate::reading::figures;
 use crate::reading::is_whole;
 use crate::reading::must_not_leak;
+use crate::rules::first_job;
+use sets::task_set::TaskSet;
 
 impl Dispatcher {
     // Does the holder keep the core?
@@ -25,12 +29,7 @@ impl Dispatcher {
     fn lowest_pending(&self) -> Option<u8>
         ensures { λ r. ⌜ StandsFor (floor (now (self .entry)) .tasks) (firstBelow (floor (now (self .entry)) .tasks) (pending (stateOf (now (self .entry))))) r ⌝ }
     {
-        for task in 0..self.task_count() {
-            if self.left[task as usize] > 0 {
-                return Some(task);
-            }
-        }
-        None
+        first_job(self.left, self.task_count())
     }
 
     // The task that has the next tick.
@@ -44,6 +43,13 @@ impl Dispatcher {
         }
     }
 
+    // Is the other task recorded, and must it not leak to the task?
+    fn leaks(&self, record: TaskSet, other: u8, task: u8) -> bool
+        ensures { λ r. ⌜ r ≡ (holds «record» other && floor (now (self .entry)) .noleak other task) ⌝ }
+    {
+        record.contains(other) && must_not_leak(&self.plan, other, task)
+    }
+
     // Must the way be scrubbed before the task may run? Each recorded task is looked at, since any of them may have left the trace.
     fn is_tainted(&self, task: u8, way: u8) -> bool
         requires listed { ⌜ task < floor (now self) .tasks ⌝ }
@@ -55,7 +61,7 @@ impl Dispatcher {
         }
         let record = self.records[way as usize];
         for other in 0..self.task_count() {
-            if record.contains(other) && must_not_leak(&self.plan, other, task) {
+            if self.leaks(record, other, task) {
                 return true;
             }
         }

@@ -1,60 +1,26 @@
-// What a tick leaves.
+// What a tick leaves, and that the law of every run is kept by it.
 ghost use mathlib.Core.Path.{_≡_};
-ghost use mathlib.Core.Bool.{cond, not, _&&_, _||_};
-ghost use Prim.Native.Nat.{ℕ, _+_, _-_, _<_, min};
-ghost use lib.Dec.{eqb};
+ghost use Prim.Native.Nat.{_<_};
 ghost use Rattle.std.specs.declared.option.Option.the-variants.{Some as Present, None as Absent};
-ghost use Rattle.sets.specs.Sets.{holds};
-ghost use Rattle.resource.specs.Answers.{isDone};
-ghost use Rattle.runs.specs.Calls.{rested, scrubbed, served, lastTick};
-ghost use Rattle.dispatch.specs.View.{floor, stateOf};
-ghost use Rattle.dispatch.specs.Later.{Older, RecordsWith, Leaves};
+ghost use Rattle.resource.specs.Seen.{Seen, RunOn, ScrubOn};
+ghost use Rattle.runs.specs.declared.answer.TickAnswer.the-variants.{Rest, Scrub, Run};
+ghost use Rattle.runs.specs.State.{chosen as chosenTask, scrubWay};
+ghost use Rattle.runs.specs.Calls.{Ticked};
+ghost use Rattle.runs.specs.History.{tick as ticked};
+ghost use Rattle.dispatch.specs.Lasting.{RunGoesOn};
+ghost use Rattle.dispatch.specs.Optional.{StandsFor};
+ghost use Rattle.dispatch.specs.View.{floor, stateOf, taskWays};
+ghost use Rattle.dispatch.specs.Later.{Older, RecordsWith};
 use super::Dispatcher;
 use crate::reading::figures;
+use crate::rules::less_one;
+use crate::rules::older_age;
+use crate::rules::run_record;
+use crate::rules::scrub_record;
+use crate::rules::under_scrub;
+use crate::rules::unended;
 use resource::answer::Progress;
 use sets::task_set::TaskSet;
-
-// An age after one more tick: it grows as far as the period.
-fn older_age(age: u32, period: u32) -> u32
-    ensures { λ r. ⌜ r ≡ min (age + 1) period ⌝ }
-{
-    age.saturating_add(1).min(period)
-}
-
-// The record of a way after a run of the task, which uses the way or does not.
-fn run_record(record: TaskSet, used: bool, task: u8) -> TaskSet
-    requires { ⌜ task < 16 ⌝ }
-    ensures { λ r. ⌜ ((k : ℕ) → holds r k ≡ (holds «record» k || (eqb k task && used))) ⌝ }
-{
-    if used { record.with(task) } else { record }
-}
-
-// The record of a way after a scrub call on it.
-fn scrub_record(record: TaskSet, progress: Progress) -> TaskSet
-    ensures { λ r. ⌜ ((k : ℕ) → holds r k ≡ (holds «record» k && not (isDone progress))) ⌝ }
-{
-    match progress {
-        Progress::Done => TaskSet::empty(),
-        Progress::UnderWay => record,
-    }
-}
-
-// The way under scrub after a scrub call on a way.
-fn under_scrub(way: u8, progress: Progress) -> Option<u8>
-    ensures { λ r. ⌜ r ≡ cond (isDone progress) Absent (Present way) ⌝ }
-{
-    match progress {
-        Progress::Done => None,
-        Progress::UnderWay => Some(way),
-    }
-}
-
-// The task, if it has any budget left.
-fn unended(task: u8, left: u32) -> Option<u8>
-    ensures { λ r. ⌜ r ≡ cond (eqb left 0) Absent (Present task) ⌝ }
-{
-    if left == 0 { None } else { Some(task) }
-}
 
 impl Dispatcher {
     // Every task's age after one more tick.
@@ -83,7 +49,10 @@ impl Dispatcher {
 
     // Nobody had the tick.
     pub(super) fn note_rest(&mut self)
-        ensures { λ _. ⌜ Leaves (now (self .entry)) (now (self .exit)) (rested (floor (now (self .entry))) (stateOf (now (self .entry)))) ⌝ }
+        requires { ⌜ StandsFor (floor (now self) .tasks) (chosenTask (floor (now self)) (stateOf (now self))) Absent ⌝ }
+        ensures plan { λ _. ⌜ now (self .exit) .plan ≡ now (self .entry) .plan ⌝ }
+        ensures step { λ _. ⌜ ((x y : Seen) → y ≡ x → Ticked (floor (now (self .entry))) (stateOf (now (self .entry))) x Rest (stateOf (now (self .exit))) y) ⌝ }
+        ensures law { λ _. ⌜ ((x y : Seen) → y ≡ x → RunGoesOn (floor (now (self .entry))) (stateOf (now (self .entry))) x (ticked x Rest) (stateOf (now (self .exit))) y) ⌝ }
     {
         self.ages = self.older_ages();
         self.holder = None;
@@ -93,9 +62,11 @@ impl Dispatcher {
 
     // The task had the tick, and a scrub call was made on the way.
     pub(super) fn note_scrub(&mut self, task: u8, way: u8, progress: Progress)
-        requires listed { ⌜ task < floor (now self) .tasks ⌝ }
-        requires there { ⌜ way < 8 ⌝ }
-        ensures { λ _. ⌜ Leaves (now (self .entry)) (now (self .exit)) (scrubbed (floor (now (self .entry))) task way (isDone progress) (stateOf (now (self .entry)))) ⌝ }
+        requires who { ⌜ StandsFor (floor (now self) .tasks) (chosenTask (floor (now self)) (stateOf (now self))) (Present task) ⌝ }
+        requires which { ⌜ StandsFor (floor (now self) .ways) (scrubWay (floor (now self)) (stateOf (now self)) task) (Present way) ⌝ }
+        ensures plan { λ _. ⌜ now (self .exit) .plan ≡ now (self .entry) .plan ⌝ }
+        ensures step { λ _. ⌜ ((x y : Seen) → ScrubOn x way progress y → Ticked (floor (now (self .entry))) (stateOf (now (self .entry))) x (Scrub task way progress) (stateOf (now (self .exit))) y) ⌝ }
+        ensures law { λ _. ⌜ ((x y : Seen) → ScrubOn x way progress y → RunGoesOn (floor (now (self .entry))) (stateOf (now (self .entry))) x (ticked x (Scrub task way progress)) (stateOf (now (self .exit))) y) ⌝ }
     {
         self.ages = self.older_ages();
         self.records[way as usize] = scrub_record(self.records[way as usize], progress);
@@ -106,11 +77,13 @@ impl Dispatcher {
 
     // The task had the tick and ran; did its job end with it?
     pub(super) fn note_run(&mut self, task: u8) -> bool
-        requires { ⌜ task < floor (now self) .tasks ⌝ }
-        ensures ended { λ r. ⌜ r ≡ lastTick (stateOf (now (self .entry))) task ⌝ }
-        ensures later { λ _. ⌜ Leaves (now (self .entry)) (now (self .exit)) (served (floor (now (self .entry))) task (stateOf (now (self .entry)))) ⌝ }
+        requires who { ⌜ StandsFor (floor (now self) .tasks) (chosenTask (floor (now self)) (stateOf (now self))) (Present task) ⌝ }
+        requires clean { ⌜ StandsFor (floor (now self) .ways) (scrubWay (floor (now self)) (stateOf (now self)) task) Absent ⌝ }
+        ensures plan { λ _. ⌜ now (self .exit) .plan ≡ now (self .entry) .plan ⌝ }
+        ensures step { λ r. ⌜ ((x y : Seen) → RunOn x task (taskWays (now (self .entry) .plan) task) y → Ticked (floor (now (self .entry))) (stateOf (now (self .entry))) x (Run task r) (stateOf (now (self .exit))) y) ⌝ }
+        ensures law { λ r. ⌜ ((x y : Seen) → RunOn x task (taskWays (now (self .entry) .plan) task) y → RunGoesOn (floor (now (self .entry))) (stateOf (now (self .entry))) x (ticked x (Run task r)) (stateOf (now (self .exit))) y) ⌝ }
     {
-        let left = self.left[task as usize].saturating_sub(1);
+        let left = less_one(self.left[task as usize]);
         self.ages = self.older_ages();
         self.records = self.records_with(task);
         self.left[task as usize] = left;

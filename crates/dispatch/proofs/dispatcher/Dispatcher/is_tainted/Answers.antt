@@ -1,6 +1,7 @@
 use mathlib.Core.Bool.{Bool, true, false}
 use mathlib.Core.Path.{_≡_, sym, ap, _∙_}
 use native.Mathlib.Omega.{arith}
+use borrow.Author.Count.{below-more}
 use Rattle.sets.specs.Sets.{names}
 use Rattle.dispatch.specs.View.{taskWays}
 use Rattle.dispatch.proofs.Choices.{tainted-unused, tainted-by, tainted-none}
@@ -12,11 +13,14 @@ returns-then-not-contains c =
     let u : names (taskWays (d .plan) (c .args .task)) (c .args .way) ≡ false = ap (λ x. names (x .ways) (c .args .way)) (sym (c .figures .ensures)) ∙ sym (c .if-not-contains .ensures tt) in
     sym (tainted-unused d (c .args .task) (c .args .way) u)
 
-pub returns-then-must-not-leak : need.returns-then-must-not-leak
-returns-then-must-not-leak c =
+pub returns-then-leaks : need.returns-then-leaks
+returns-then-leaks c =
     let d = c .args .self .now in
     let u : names (taskWays (d .plan) (c .args .task)) (c .args .way) ≡ true = ap (λ x. names (x .ways) (c .args .way)) (sym (c .figures .ensures)) ∙ sym (c .if-not-contains .ensures tt) in
-    sym (tainted-by d (c .args .task) (c .args .way) (c .loop-other .other) u (omega arith) (sym (c .if-contains .ensures tt)) (sym (c .if-must-not-leak .ensures tt)))
+    sym (tainted-by d (c .args .task) (c .args .way) (c .loop-other .other) u (omega arith) (sym (c .if-leaks .ensures tt)))
+
+pub loop-other-again : need.loop-other-again
+loop-other-again c = below-more _ _ (c .loop-other .inv) (sym (c .if-leaks .ensures tt))
 
 pub returns : need.returns
 returns c = sym (tainted-none (c .args .self .now) (c .args .task) (c .args .way) (λ k l. c .loop-other .inv k (omega arith)))

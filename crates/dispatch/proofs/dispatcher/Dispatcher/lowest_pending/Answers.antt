@@ -1,9 +1,12 @@
+use mathlib.Core.Path.{subst}
+use Prim.Native.Nat.{ℕ}
 use native.Mathlib.Omega.{arith}
-use Rattle.dispatch.proofs.Choices.{pending-first, pending-nobody}
+use Rattle.dispatch.specs.Later.{FirstJob}
+use Rattle.dispatch.proofs.Choices.{pending-first}
 use Rattle.dispatch.proofs.dispatcher.Dispatcher.lowest_pending.Needs as need
 
-pub returns-then-self-task-gt0 : need.returns-then-self-task-gt0
-returns-then-self-task-gt0 c = pending-first (c .args .self .now) (c .loop-task .task) (omega arith) (c .if-self-task-gt0 .taken) (c .loop-task .inv)
-
 pub returns : need.returns
-returns c = pending-nobody (c .args .self .now) (λ k l. c .loop-task .inv k (omega arith))
+returns c =
+    let d = c .args .self .now in
+    let o = c .first-job .result in
+    pending-first d o (subst (λ (n : ℕ). FirstJob (d .left) n o) (c .task-count .ensures .count) (c .first-job .ensures))

@@ -1,0 +1,5 @@
+pub mod Asked
+pub mod Told
+pub mod Summary
+pub mod Start
+pub mod Day
