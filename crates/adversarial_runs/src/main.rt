@@ -1,5 +1,7 @@
 // Runs of the dispatcher on floors that the analysis accepts, over several resources, with calls in hostile orders. What it promises of every
 // run is checked from outside, by books of this program's own.
+#![tactic(auto)]
+
 mod books;
 mod counts;
 mod floors;

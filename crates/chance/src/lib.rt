@@ -1,4 +1,6 @@
 // Numbers that look random and come from a seed, the same in every run: for test programs.
+#![tactic(auto)]
+
 ghost use Rattle.std.specs.Prelude.{◌≡◌, cond, false, ◌%◌, ◌<◌, ◌≤◌, eqb};
 ghost use Rattle.chance.specs.Draws.{advanced, shown};
 

@@ -1,4 +1,6 @@
 // Reads a day from standard input, a table text with the day's calls after it, and prints what comes of each call.
+#![tactic(auto)]
+
 use replay::replay;
 use std::io;
 use std::io::{Read, Write};

@@ -1,4 +1,6 @@
 // The dispatcher on examples: a run worked by hand on the row banks, and each refusal of its calls.
+#![tactic(auto)]
+
 use analysis::analyse::analyse;
 use analysis::plan::Plan;
 use dispatch::dispatcher::Dispatcher;

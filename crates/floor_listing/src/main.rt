@@ -1,4 +1,6 @@
 // Reads a table text from standard input, and prints each task and pair that it says, or why it is refused.
+#![tactic(auto)]
+
 use listing::listing;
 use std::io;
 use std::io::{Read, Write};

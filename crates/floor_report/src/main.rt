@@ -1,4 +1,6 @@
 // Reads a table text from standard input, and prints each task's name, bound and slack, or why the floor is refused.
+#![tactic(auto)]
+
 use report::report::report;
 use std::io::{Read, Write};
 

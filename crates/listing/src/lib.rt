@@ -1,4 +1,6 @@
 // What was read from a table text, listed for people: each task and each pair, or why the text was refused.
+#![tactic(auto)]
+
 ghost use Rattle.std.specs.Prelude.{◌≡◌, IfOk, OnOk};
 ghost use Rattle.taskset.specs.Table.{count, task_at};
 ghost use Rattle.taskset.specs.View.{table};

@@ -1,4 +1,6 @@
 // A pair: any two resources held as one. A task that runs on a way runs on it in both, and the way is clean once it is clean in both.
+#![tactic(auto)]
+
 ghost use Rattle.std.specs.Prelude.{◌≡◌, ◌&&◌};
 ghost use Rattle.resource.specs.Seen.{Sound, clean};
 ghost use Rattle.resource.specs.Meaning.{Ran};

@@ -1,4 +1,6 @@
 // Text for people, piece by piece at the end of a list of bytes. Each piece is there whole, or memory ran out and the call says so.
+#![tactic(auto)]
+
 ghost use Rattle.std.specs.Prelude.{◌≡◌, ◌++◌, decimal, OnOk};
 ghost use Rattle.printed.specs.Lines.{with_no, with_refusal};
 

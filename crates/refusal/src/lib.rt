@@ -1,4 +1,6 @@
 // What a refused call tells its caller, whichever layer refused: a number, a detail, and a word for people.
+#![tactic(auto)]
+
 ghost use Rattle.std.specs.Prelude.{◌≡◌};
 ghost use Rattle.refusal.specs.Told.{Told};
 

@@ -1,4 +1,6 @@
 // A day replayed: a table text, the resource that it is started on and the calls of the day, answered line by line.
+#![tactic(auto)]
+
 ghost use Rattle.std.specs.Prelude.{◌≡◌, min, [], length, take, IfOk, OnOk};
 ghost use Rattle.tabletext.specs.Read.{read_text};
 ghost use Rattle.textparts.specs.View.{to_come};

@@ -1,4 +1,6 @@
 // A reserve: any resource with its lowest ways hidden. Way w above is way w + k of the resource below, where k ways are hidden.
+#![tactic(auto)]
+
 ghost use Rattle.std.specs.Prelude.{◌≡◌, ℕ, ◌+◌, ◌-◌, ◌<◌, ◌≤◌, ◌&&◌, Some, None, nat_le, nat_lt};
 ghost use Rattle.sets.specs.Sets.{names};
 ghost use Rattle.resource.specs.Seen.{Sound};

@@ -1,4 +1,6 @@
 // Piles of boards and layers: what a pile does to the memory lent to it, proved, and runs of calls with the traces and answers expected.
+#![tactic(auto)]
+
 ghost use Rattle.std.specs.Prelude.{◌≡◌, length};
 ghost use Rattle.way_cache.specs.Marks.{Wiped};
 

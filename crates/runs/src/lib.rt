@@ -1,4 +1,6 @@
 // What the calls of a dispatcher answer and do to its state, over any floor, and the law that every run of them keeps.
+#![tactic(auto)]
+
 pub mod answer;
 pub mod fault;
 

@@ -1,4 +1,6 @@
 // A second analysis against the first: written apart from it, from the rules alone, and run on random floors over several resources.
+#![tactic(auto)]
+
 mod compare;
 mod floors;
 mod lines;

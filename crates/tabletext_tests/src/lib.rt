@@ -1,4 +1,6 @@
 // What reading a table text answers, on examples: every refusal with its number, detail and word, and each limit from both sides.
+#![tactic(auto)]
+
 use refusal::Refusal;
 use tabletext::fault::TextFault;
 use tabletext::text;

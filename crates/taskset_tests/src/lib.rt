@@ -1,4 +1,6 @@
 // What the draft answers, on examples: its ranges at their edges, and each refusal with its number, detail and word.
+#![tactic(auto)]
+
 use refusal::Refusal;
 use sets::way_set::WaySet;
 use taskset::draft::Draft;

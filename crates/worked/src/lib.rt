@@ -1,5 +1,7 @@
 // Theorems about the definitions that the analysis's contracts cite: that a floor has one verdict, and what small floors, worked by hand, come to.
 // Each function does nothing but stand for its theorem.
+#![tactic(auto)]
+
 ghost use Rattle.worked.specs.OneVerdict.{OneVerdict};
 ghost use Rattle.worked.specs.Worked.{WorkedFloors};
 
