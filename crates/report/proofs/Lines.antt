@@ -2,7 +2,7 @@
 use Rattle.std.proofs.Common.{◌≡◌, ℕ, zero, suc, ◌+◌, ◌*◌, ◌^◌, ◌<◌, ◌≤◌, List, [], ◌∷◌, ◌++◌, length, Ok, Err, codes, decimal, Result, sym, refl, ap, ◌∙◌, arith, length-append}
 use Rattle.std.proofs.lemmas.Fmt.{length-decimal-le}
 use Rattle.std.proofs.lemmas.List.Edits.{paste_none}
-use Rattle.std.specs.List.{AllByRecursion as All}
+use Rattle.std.specs.List.{AllByRecursion}
 use Rattle.tabletext.specs.Laws.{WellNamed}
 use Rattle.taskset.specs.declared.fault.DraftFault.{DraftFault}
 use Rattle.taskset.specs.declared.task.Task.{Task}
@@ -19,7 +19,7 @@ ok_ok : {A E : Type 0} {a b : A} → ◌≡◌ {A = Result A E} (Ok a) (Ok b) �
 ok_ok h = cc
 
 -- a name that was read has at most 16 bytes
-pub name-short : (text : List ℕ) (ts : List Task) (i : ℕ) (name : List ℕ) → All (WellNamed text) ts → Ok name ≡ name_of text (task_at ts i) → length name ≤ 16
+pub name-short : (text : List ℕ) (ts : List Task) (i : ℕ) (name : List ℕ) → AllByRecursion (WellNamed text) ts → Ok name ≡ name_of text (task_at ts i) → length name ≤ 16
 name-short text [] i name w e = absurd (ok-err e)
 name-short text (t ∷ ts) zero name w e = omega (arith, ap length (ok_ok e), w.0.length, w.0.few)
 name-short text (t ∷ ts) (suc i) name w e = name-short text ts i name w.1 e

@@ -1,6 +1,6 @@
 // The report on a text.
 ghost use Rattle.std.specs.Prelude.{◌≡◌, ◌≤◌, length};
-ghost use Rattle.std.specs.List.{AllByRecursion as All};
+ghost use Rattle.std.specs.List.{AllByRecursion};
 ghost use Rattle.tabletext.specs.Laws.{WellNamed};
 ghost use Rattle.tabletext.specs.Read.{read_text};
 ghost use Rattle.taskset.specs.View.{table};
@@ -32,7 +32,7 @@ fn put_refusal<F: Refusal>(buf: &mut [u8], fault: &F) -> usize
 // The verdict on what was read.
 fn put_verdict(buf: &mut [u8], text: &[u8], draft: &Draft) -> usize
     requires room { 528 ≤ length buf.old }
-    requires named { All (WellNamed text.now) (table draft.now).tasks }
+    requires named { AllByRecursion (WellNamed text.now) (table draft.now).tasks }
     ensures { TableReported text.now (table draft.now) buf.old result buf.new }
 {
     let mut bounds = [0u32; 16];

@@ -1,6 +1,6 @@
 // The lines of a report, one for each task.
 ghost use Rattle.std.specs.Prelude.{◌≡◌, ℕ, ◌+◌, ◌<◌, ◌≤◌, length, slice_index};
-ghost use Rattle.std.specs.List.{AllByRecursion as All};
+ghost use Rattle.std.specs.List.{AllByRecursion};
 ghost use Rattle.tabletext.specs.Laws.{WellNamed};
 ghost use Rattle.taskset.specs.Table.{count, task_at};
 ghost use Rattle.taskset.specs.View.{table};
@@ -23,7 +23,7 @@ fn put_task(
     requires room { at + 33 ≤ length buf.old }
     requires bound_small { bound < 10000000 }
     requires slack_small { slack < 10000000 }
-    requires named { All (WellNamed text.now) (table draft.now).tasks }
+    requires named { AllByRecursion (WellNamed text.now) (table draft.now).tasks }
     ensures place { result ≡ at + length (row_of text.now (task_at (table draft.now).tasks i) bound slack) }
     ensures after { buf.new ≡ put buf.old at (row_of text.now (task_at (table draft.now).tasks i) bound slack) }
     ensures short { result ≤ at + 33 }
@@ -41,7 +41,7 @@ pub fn put_rows(buf: &mut [u8], text: &[u8], draft: &Draft, bounds: &[u32], slac
     requires all_slacks { length slacks.now ≡ 16 }
     requires bounds_small { (k : ℕ) → slice_index bounds.now k < 10000000 }
     requires slacks_small { (k : ℕ) → slice_index slacks.now k < 10000000 }
-    requires named { All (WellNamed text.now) (table draft.now).tasks }
+    requires named { AllByRecursion (WellNamed text.now) (table draft.now).tasks }
     ensures place { result ≡ length (rows_below text.now (table draft.now).tasks bounds.now slacks.now (count (table draft.now))) }
     ensures after { buf.new ≡ put buf.old 0 (rows_below text.now (table draft.now).tasks bounds.now slacks.now (count (table draft.now))) }
 {

@@ -1,6 +1,6 @@
 -- The shapes of a line's words, checked from left to right.
 use Rattle.std.proofs.Common.{◌≡◌, ℕ, ◌+◌, ◌<◌, ◌≤◌, Bool, true, false, cond, ◌&&◌, ◌⊎◌, List, [], ◌∷◌, map, length, Ok, Err, Result, sym, refl, ap, ◌∙◌, subst, inl, inr, ⊎_elim, arith}
-use Rattle.std.specs.List.{AllByRecursion as All}
+use Rattle.std.specs.List.{AllByRecursion}
 use Rattle.sets.specs.declared.way_set.WaySet.{WaySet}
 use Rattle.taskset.specs.declared.task.Kind.{Kind}
 use Rattle.taskset.specs.Table.{Table, added, paired}
@@ -24,7 +24,7 @@ first_wrong (c ∷ cs) = cond c.right (first_wrong cs) (Err (OddWord c.at))
 -- each place is past those before it
 abbrev pub Rise : List Check → Type 0
 Rise [] = Unit {0}
-Rise (c ∷ cs) = All (λ d. c.at < d.at) cs × Rise cs
+Rise (c ∷ cs) = AllByRecursion (λ d. c.at < d.at) cs × Rise cs
 
 -- all are right
 pub none-wrong : (cs : List Check) → first_wrong cs ≡ Ok tt → (p : ℕ) → WrongAt cs p → ⊥
@@ -35,7 +35,7 @@ none-wrong (c ∷ cs) e p w =
       | false ↦ λ r q. err-ok q
     ]) refl e
 
-later-wrong : (m : ℕ) (cs : List Check) → All (λ d. m < d.at) cs → (p : ℕ) → WrongAt cs p → m < p
+later-wrong : (m : ℕ) (cs : List Check) → AllByRecursion (λ d. m < d.at) cs → (p : ℕ) → WrongAt cs p → m < p
 later-wrong m [] a p w = absurd w
 later-wrong m (c ∷ cs) a p w = ⊎_elim (λ x. omega (arith, a.0, x.0)) (λ x. later-wrong m cs a.1 p x) w
 

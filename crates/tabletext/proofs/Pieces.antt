@@ -1,6 +1,6 @@
 -- What is known of the pieces of a line.
 use Rattle.std.proofs.Common.{◌≡◌, ℕ, ◌+◌, ◌<◌, ◌≤◌, Bool, true, false, cond, not, ◌&&◌, ◌||◌, eqb, ltb, leb, ◌⊎◌, List, [], ◌∷◌, map, length, get_or, Ok, Err, codes, Result, sym, refl, ap, ◌∙◌, subst, inl, inr, ⊎_elim, arith}
-use Rattle.std.specs.List.{AllByRecursion as All}
+use Rattle.std.specs.List.{AllByRecursion}
 use Rattle.std.specs.Str.{bytes_eq}
 use Rattle.std.proofs.lemmas.Bool.Decides.{nat_tests}
 use Rattle.textparts.specs.declared.bytes.Class.TheVariants.{Letter, Digit, NameByte}
@@ -43,11 +43,11 @@ span-told s = elim (is_number s.bytes) as (λ v. span (cond v (number s (worth 0
 
 -- pieces that are honest words of the text, in rising order
 pub record Fine (text : List ℕ) (ts : List Token) : Type 0 where
-  pub honest : All Honest ts
+  pub honest : AllByRecursion Honest ts
   pub rise : Rising (map span ts)
-  pub stand : All (Stands text) (map span ts)
+  pub stand : AllByRecursion (Stands text) (map span ts)
 
-all-honest : (ws : List Span) → All Honest (map told ws)
+all-honest : (ws : List Span) → AllByRecursion Honest (map told ws)
 all-honest [] = tt
 all-honest (w ∷ ws) = (told-honest w, all-honest ws)
 
@@ -55,8 +55,8 @@ spans-told : (ws : List Span) → ws ≡ map span (map told ws)
 spans-told [] = refl
 spans-told (w ∷ ws) = ap (λ s. s ∷ ws) (sym (span-told w)) ∙ ap (λ ss. span (told w) ∷ ss) (spans-told ws)
 
-fine-words : (text : List ℕ) (ws : List Span) → Rising ws → All (Stands text) ws → Fine text (map told ws)
-fine-words text ws r s = record { honest = all-honest ws; rise = subst Rising (spans-told ws) r; stand = subst (All (Stands text)) (spans-told ws) s }
+fine-words : (text : List ℕ) (ws : List Span) → Rising ws → AllByRecursion (Stands text) ws → Fine text (map told ws)
+fine-words text ws r s = record { honest = all-honest ws; rise = subst Rising (spans-told ws) r; stand = subst (AllByRecursion (Stands text)) (spans-told ws) s }
 
 -- the pieces of a line of the text are such, or the line is skipped
 pub fine-line : (text : List ℕ) (l : Span) → Stands text l → Fine text (pieces l.place l.bytes) ⊎ (form_of l ≡ Ok skipped)

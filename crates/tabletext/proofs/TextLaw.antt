@@ -1,6 +1,6 @@
 -- Reading a text reports its first fault, or leaves what its lines say.
 use Rattle.std.proofs.Common.{◌≡◌, ℕ, zero, suc, ◌+◌, ◌<◌, ◌≤◌, Bool, true, false, cond, ◌&&◌, ◌||◌, eqb, leb, ◌⊎◌, List, [], ◌∷◌, ◌++◌, map, length, take, drop, Some, None, Ok, Err, Option, Result, unwrap_or, sym, refl, ap, ◌∙◌, subst, inl, inr, ⊎_elim, append_assoc, append-nil, arith, length-take-le}
-use Rattle.std.specs.List.{flat_map, AllByRecursion as All}
+use Rattle.std.specs.List.{flat_map, AllByRecursion}
 use Rattle.std.proofs.ByRecursion.{All-append}
 use Rattle.std.proofs.lemmas.List.{map-append}
 use Rattle.std.proofs.lemmas.Bool.Decides.{nat_tests}
@@ -52,7 +52,7 @@ step : (text : List ℕ) (t : Table) (l : Span) (ls : List Span) (r : Result Tab
 step text t l ls (Ok v) d rest = extend text t l ls (read_lines text v ls) d.0 (subst (λ x. LinesVerdict text x ls (read_lines text v ls)) d.1 (rest v))
 step text t l ls (Err f) d rest = record { before = []; line = l; after = ls; order = refl; earlier = tt; place = refl; first = d }
 
-lines-verdict : (text : List ℕ) (t : Table) (ls : List Span) → All (Stands text) ls → LinesVerdict text t ls (read_lines text t ls)
+lines-verdict : (text : List ℕ) (t : Table) (ls : List Span) → AllByRecursion (Stands text) ls → LinesVerdict text t ls (read_lines text t ls)
 lines-verdict text t [] h = (tt, refl)
 lines-verdict text t (l ∷ ls) h = step text t l ls (line_read text t l) (line-verdict text t l h.0) (λ v. lines-verdict text v ls h.1)
 
@@ -86,7 +86,7 @@ line-name text l h (Ok (task w)) e = ap (λ n. n ∷ []) (name-stands text (span
 line-name text l h (Ok (noleak w)) e = refl
 line-name text l h (Err x) e = refl
 
-all-names : (text : List ℕ) (ls : List Span) → All (Stands text) ls → map (λ t. name_in text t.name) (tasks_in ls) ≡ flat_map (λ l. name_of_line (form_of l)) ls
+all-names : (text : List ℕ) (ls : List Span) → AllByRecursion (Stands text) ls → map (λ t. name_in text t.name) (tasks_in ls) ≡ flat_map (λ l. name_of_line (form_of l)) ls
 all-names text [] h = refl
 all-names text (l ∷ ls) h =
     map-append (λ t. name_in text t.name) (task_in (form_of l)) (tasks_in ls)
@@ -107,13 +107,13 @@ well-named text t l w h e none =
       shape = ap is_name is ∙ shape;
     }
 
-line-well : (text : List ℕ) (t : Table) (l : Span) → Stands text l → (f : Result Form LineFault) → form_of l ≡ f → NoneOf text t l f → All (WellNamed text) (task_in f)
+line-well : (text : List ℕ) (t : Table) (l : Span) → Stands text l → (f : Result Form LineFault) → form_of l ≡ f → NoneOf text t l f → AllByRecursion (WellNamed text) (task_in f)
 line-well text t l h (Ok skipped) e n = tt
 line-well text t l h (Ok (task w)) e n = (well-named text t l w h e n, tt)
 line-well text t l h (Ok (noleak w)) e n = tt
 line-well text t l h (Err x) e n = tt
 
-all-well : (text : List ℕ) (t : Table) (ls : List Span) → All (Stands text) ls → Faultless text t ls → All (WellNamed text) (tasks_in ls)
+all-well : (text : List ℕ) (t : Table) (ls : List Span) → AllByRecursion (Stands text) ls → Faultless text t ls → AllByRecursion (WellNamed text) (tasks_in ls)
 all-well text t [] h f = tt
 all-well text t (l ∷ ls) h f = All-append (WellNamed text) (task_in (form_of l)) (tasks_in ls) (line-well text t l h.0 (form_of l) refl f.0) (all-well text (said text t l) ls h.1 f.1)
 
@@ -127,7 +127,7 @@ line-apart text t l h (Ok (task w)) e n a =
 line-apart text t l h (Ok (noleak w)) e n a = a
 line-apart text t l h (Err x) e n a = a
 
-all_apart : (text : List ℕ) (t : Table) (ls : List Span) → All (Stands text) ls → Faultless text t ls → Apart text t.tasks → Apart text (all_said text t ls).tasks
+all_apart : (text : List ℕ) (t : Table) (ls : List Span) → AllByRecursion (Stands text) ls → Faultless text t ls → Apart text t.tasks → Apart text (all_said text t ls).tasks
 all_apart text t [] h f a = a
 all_apart text t (l ∷ ls) h f a = all_apart text (said text t l) ls h.1 f.1 (line-apart text t l h.0 (form_of l) refl f.0 a)
 
@@ -184,7 +184,7 @@ read-well text u short f e =
       faultless = f;
       tasks = tasks;
       names = ap (map (λ t. name_in text t.name)) tasks ∙ all-names text ls stand;
-      named = subst (All (WellNamed text)) (sym tasks) (all-well text nothing ls stand f);
+      named = subst (AllByRecursion (WellNamed text)) (sym tasks) (all-well text nothing ls stand f);
       apart = apart;
       pairs = λ k i. all-pairs text nothing ls v.tasks k i f tasks apart;
     })

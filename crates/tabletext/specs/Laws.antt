@@ -1,6 +1,6 @@
 -- What reading a text means, in plain words.
 use Rattle.std.specs.Prelude.{◌≡◌, ℕ, zero, suc, ◌+◌, ◌<◌, ◌≤◌, Bool, true, false, ◌&&◌, ◌||◌, List, [], ◌∷◌, ◌++◌, map, length, Ok, Err, Result}
-use Rattle.std.specs.List.{flat_map, AllByRecursion as All}
+use Rattle.std.specs.List.{flat_map, AllByRecursion}
 use Rattle.std.specs.Str.{bytes_eq}
 use Rattle.taskset.specs.declared.task.Task.{Task}
 use Rattle.taskset.specs.Table.{Table, nothing, name_in}
@@ -80,7 +80,7 @@ pub record ReadWell (text : List ℕ) (u : Table) : Type 0 where
   pub tasks : u.tasks ≡ flat_map (λ l. task_in (form_of l)) (lines 0 text)
   -- asked for their names, the tasks give back the bytes of the NAME words
   pub names : map (λ t. name_in text t.name) u.tasks ≡ flat_map (λ l. name_of_line (form_of l)) (lines 0 text)
-  pub named : All (WellNamed text) u.tasks
+  pub named : AllByRecursion (WellNamed text) u.tasks
   -- no two tasks have one name
   pub apart : (k i : ℕ) (n : List ℕ) → is_named text u.tasks k n ≡ true → is_named text u.tasks i n ≡ true → k ≡ i
   -- a pair exactly where some noleak line says so by their names

@@ -200,8 +200,8 @@ mod tests {
         let mut draft = Draft::empty();
         assert!(rt; text::read(table, &mut draft).is_ok());
         assert_eq!(rt; draft.count(), 2);
-        assert!(rt; draft.name(0, table)? == b"pick");
-        assert!(rt; draft.name(1, table)? == b"seal");
+        assert!(rt; draft.name(0, table)? == b"pick".as_slice());
+        assert!(rt; draft.name(1, table)? == b"seal".as_slice());
         let seal = draft.figures(1)?;
         assert_eq!(rt; seal.period, 20);
         assert_eq!(rt; seal.budget, 3);

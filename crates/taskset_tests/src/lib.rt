@@ -119,7 +119,7 @@ mod tests {
             Ok(2)
         );
         assert_eq!(rt; draft.name(0, text)?.len(), 0, "added by figures");
-        assert!(rt; draft.name(1, text)? == b"pick");
+        assert!(rt; draft.name(1, text)? == b"pick".as_slice());
         assert_eq!(rt; draft.name(2, text)?.len(), 0, "runs past the end");
         assert!(rt; draft.name(3, text).is_err());
         Ok(())

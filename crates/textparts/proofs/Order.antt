@@ -1,6 +1,6 @@
 -- That lines and words stand in the text, in rising order, and that a line is a remark or its words.
 use Rattle.std.proofs.Common.{◌≡◌, ℕ, zero, suc, ◌+◌, ◌<◌, ◌≤◌, Bool, true, false, cond, not, eqb, ◌⊎◌, List, [], ◌∷◌, map, length, get_or, take, drop, sym, refl, ap, ◌∙◌, subst, inl, inr, ⊎_elim, add-one, arith}
-use Rattle.std.specs.List.{AllByRecursion as All}
+use Rattle.std.specs.List.{AllByRecursion}
 use Rattle.std.proofs.ByRecursion.{All-weaker}
 use Rattle.std.proofs.lemmas.List.{drop_more}
 use Rattle.textparts.specs.declared.bytes.Class.TheVariants.{InLine, Space, InWord}
@@ -33,7 +33,7 @@ abbrev HeadAt : ℕ → List Span → Type 0
 HeadAt p [] = Unit {0}
 HeadAt p (s ∷ ss) = s.place ≡ p
 
-longer-stand : (t : List ℕ) (p b : ℕ) (ss : List Span) → drop p t ≡ b ∷ drop (p + 1) t → p < length t → HeadAt (p + 1) ss → All (Stands t) ss → All (Stands t) (longer p b ss)
+longer-stand : (t : List ℕ) (p b : ℕ) (ss : List Span) → drop p t ≡ b ∷ drop (p + 1) t → p < length t → HeadAt (p + 1) ss → AllByRecursion (Stands t) ss → AllByRecursion (Stands t) (longer p b ss)
 longer-stand t p b [] e lt h k = (record { within = omega arith; same = ap (take 1) e }, tt)
 longer-stand t p b (s ∷ ss) e lt h k = (grow t p b s.bytes e (subst (λ q. Stands t (at q s.bytes)) h k.0), k.1)
 
@@ -45,12 +45,12 @@ lines-head : (p : ℕ) (xs : List ℕ) → HeadAt p (lines p xs)
 lines-head p [] = tt
 lines-head p (b ∷ bs) = elim (has InLine b) as (λ v. HeadAt p (cond v (longer p b (lines (p + 1) bs)) (at p [] ∷ lines (p + 1) bs))) [ true ↦ longer-head p b (lines (p + 1) bs) | false ↦ refl ]
 
-pub lines-stand : (t : List ℕ) (p : ℕ) (xs : List ℕ) → Stands t (at p xs) → All (Stands t) (lines p xs)
+pub lines-stand : (t : List ℕ) (p : ℕ) (xs : List ℕ) → Stands t (at p xs) → AllByRecursion (Stands t) (lines p xs)
 lines-stand t p [] h = tt
 lines-stand t p (b ∷ bs) h =
     let s = shift t p b bs h in
     let rest = lines-stand t (p + 1) bs s.1 in
-    elim (has InLine b) as (λ v. All (Stands t) (cond v (longer p b (lines (p + 1) bs)) (at p [] ∷ lines (p + 1) bs))) [
+    elim (has InLine b) as (λ v. AllByRecursion (Stands t) (cond v (longer p b (lines (p + 1) bs)) (at p [] ∷ lines (p + 1) bs))) [
       | true ↦ longer-stand t p b (lines (p + 1) bs) s.0 (omega (arith, h.within)) (lines-head (p + 1) bs) rest
       | false ↦ (record { within = omega (arith, h.within); same = refl }, rest)
     ]
@@ -63,26 +63,26 @@ words-head p (b ∷ bs) e =
       | false ↦ λ i. elim (begins bs) as (λ v. HeadAt p (cond v (longer p b (words (p + 1) bs)) (at p (b ∷ []) ∷ words (p + 1) bs))) [ true ↦ longer-head p b (words (p + 1) bs) | false ↦ refl ]
     ]) e
 
-pub words-stand : (t : List ℕ) (p : ℕ) (xs : List ℕ) → Stands t (at p xs) → All (Stands t) (words p xs)
+pub words-stand : (t : List ℕ) (p : ℕ) (xs : List ℕ) → Stands t (at p xs) → AllByRecursion (Stands t) (words p xs)
 words-stand t p [] h = tt
 words-stand t p (b ∷ bs) h =
     let s = shift t p b bs h in
     let W = words (p + 1) bs in
     let rest = words-stand t (p + 1) bs s.1 in
-    elim (has Space b) as (λ v. All (Stands t) (cond v W (cond (begins bs) (longer p b W) (at p (b ∷ []) ∷ W)))) [
+    elim (has Space b) as (λ v. AllByRecursion (Stands t) (cond v W (cond (begins bs) (longer p b W) (at p (b ∷ []) ∷ W)))) [
       | true ↦ rest
-      | false ↦ (elim (begins bs) as (λ v. begins bs ≡ v → All (Stands t) (cond v (longer p b W) (at p (b ∷ []) ∷ W))) [
+      | false ↦ (elim (begins bs) as (λ v. begins bs ≡ v → AllByRecursion (Stands t) (cond v (longer p b W) (at p (b ∷ []) ∷ W))) [
         | true ↦ λ e. longer-stand t p b W s.0 (omega (arith, h.within)) (words-head (p + 1) bs e) rest
         | false ↦ λ e. (record { within = omega (arith, h.within); same = ap (take 1) s.0 }, rest)
       ]) refl
     ]
 
 -- the words of a line of the text stand in it
-pub line-words-stand : (t : List ℕ) (l : Span) → Stands t l → All (Stands t) (words l.place l.bytes)
+pub line-words-stand : (t : List ℕ) (l : Span) → Stands t l → AllByRecursion (Stands t) (words l.place l.bytes)
 line-words-stand t l h = words-stand t l.place l.bytes h
 
 -- the lines of a text stand in it
-pub text-lines-stand : (t : List ℕ) → All (Stands t) (lines 0 t)
+pub text-lines-stand : (t : List ℕ) → AllByRecursion (Stands t) (lines 0 t)
 text-lines-stand t = lines-stand t 0 t (record { within = omega arith; same = all t })
   where
     all : (xs : List ℕ) → take (length xs) xs ≡ xs
@@ -91,7 +91,7 @@ text-lines-stand t = lines-stand t 0 t (record { within = omega arith; same = al
 
 -- every span begins past place p
 abbrev pub Past : ℕ → List Span → Type 0
-Past p ss = All (λ s. p < s.place) ss
+Past p ss = AllByRecursion (λ s. p < s.place) ss
 
 -- each span begins past those before it
 abbrev pub Rising : List Span → Type 0

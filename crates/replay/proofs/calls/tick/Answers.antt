@@ -10,8 +10,8 @@ returns g c =
     let text = c.args.text.now in
     let out = vec_items c.args.out.now in
     let n = c.args.book.now.ticks in
-    ticked-goes text (table c.args.draft.now).tasks c.tick_answer.result out n _ _ _ _ _ _
-    c.tick_answer.ensures.plan
-    c.tick_answer.ensures.law
+    ticked-goes text (table c.args.draft.now).tasks c.tick-answer.result out n _ _ _ _ _ _
+    c.tick-answer.ensures.plan
+    c.tick-answer.ensures.law
     c.in_ok-ticked.ensures
     c.count_tick.ensures

@@ -8,8 +8,8 @@ use Rattle.replay.specs.Day.{Dayed, DayTold}
 use Rattle.replay.specs.Told.{Told, Stands, begun}
 use Rattle.replay.proofs.day.run_day.Goals as goal
 
-pub returns-in_ok-remarks : goal.returns-in_ok-remarks
-returns-in_ok-remarks g c =
+pub returns-in_ok-remarks-in-Ok : goal.returns-in_ok-remarks-in-Ok
+returns-in_ok-remarks-in-Ok g c =
     let m = g.R.Resource.meaning in
     let p = c.args.plan.now in
     let text = c.args.text.now in
@@ -23,7 +23,7 @@ returns-in_ok-remarks g c =
       run = started.law;
       kept = tt;
     } in
-    let s = c.in_ok-calls.ensures out (plan_floor p) [] first in
+    let s = c.in_ok-calls-in-Ok.ensures out (plan_floor p) [] first in
     let whole : DayTold text ts p (to_come c.args.reader.now) out (vec_items c.remarks.new.out) = record {
       history = s.history;
       calls = vec_items c.calls.new.out;
@@ -34,6 +34,6 @@ returns-in_ok-remarks g c =
       run = s.run;
       kept = s.kept;
       book = c.calls.new.book;
-      whole = c.in_ok-remarks.ensures;
+      whole = c.in_ok-remarks-in-Ok.ensures;
     } in
     subst (λ (r : Result (Unit {0}) StartFault). Dayed r text ts p (to_come c.args.reader.now) out (vec_items c.remarks.new.out)) started.answer whole

@@ -7,4 +7,4 @@ use Rattle.analysis.proofs.plan.Plan.empty.Goals as goal
 pub invariant_of-result : goal.invariant_of-result
 invariant_of-result c =
     let none = tasks-none (table c.empty.result) (cost_of c.none.result) c.empty.ensures in
-    (refl, (∣ (λ i w l u. absurd (omega (arith, none))) ∣₁, (∣ (λ i l. absurd (omega (arith, none))) ∣₁, tt)))
+    record { bound_places = refl; priced = ∣ (λ i w l u. absurd (omega (arith, none))) ∣₁; accepted = ∣ (λ i l. absurd (omega (arith, none))) ∣₁ }

@@ -1,4 +1,4 @@
-use Rattle.std.proofs.Common.{◌≡◌, ℕ, get_or, refl, subst}
+use Rattle.std.proofs.Common.{ℕ, get_or, refl, subst}
 use Rattle.std.proofs.lemmas.Result.{err_from_is_err_and}
 use Rattle.taskset.specs.View.{table}
 use Rattle.analysis.specs.declared.plan.Plan.{Plan}
@@ -37,13 +37,12 @@ invariant_of-result g c =
     let t = table c.args.draft.now in
     let cost = cost_of c.asked-costs.result in
     let b = c.in_ok-bounds.ensures in
-    let r = subst (λ (n : ℕ). Ready (floor_of t cost) n c.args.room) c.way_count.ensures.count c.in_ok-check.ensures in (
-      b.0,
-      (
-        ∣ priced-from t x cost c.args.room c.way_count.ensures.sound c.asked-costs.ensures r ∣₁,
-        (∣ subst (λ (f : Floor). Accepted f (λ i. get_or c.in_ok-bounds.bounds i 0)) c.of.ensures b.1 ∣₁, tt),
-      ),
-    )
+    let r = subst (λ (n : ℕ). Ready (floor_of t cost) n c.args.room) c.way_count.ensures.count c.in_ok-check.ensures in
+    record {
+      bound_places = b.0;
+      priced = ∣ priced-from t x cost c.args.room c.way_count.ensures.sound c.asked-costs.ensures r ∣₁;
+      accepted = ∣ subst (λ (f : Floor). Accepted f (λ i. get_or c.in_ok-bounds.bounds i 0)) c.of.ensures b.1 ∣₁;
+    }
 
 pub returns : goal.returns
 returns g c =

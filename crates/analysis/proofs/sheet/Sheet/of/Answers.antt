@@ -1,4 +1,4 @@
-use Rattle.std.proofs.Common.{◌≡◌, ◌<◌, ◌≢◌, length, sym, refl, ◌∙◌, subst, arith, length-set, get_or-set_other, get_or-set_same, below_more}
+use Rattle.std.proofs.Common.{◌<◌, ◌≢◌, length, ◌∙◌, arith, length-set, get_or-set_other, get_or-set_same, below_more}
 use Rattle.analysis.specs.FloorOf.{floor_of}
 use Rattle.analysis.proofs.sheet.Sheet.of.Goals as goal
 
@@ -18,4 +18,8 @@ loop-task-preserved c = (
 
 pub invariant_of-result : goal.invariant_of-result
 unfolding floor_of
-invariant_of-result c = (c.count-count.ensures.value, (c.loop-task.invariant.0, (∣ (λ i l. c.loop-task.invariant.1 i (omega (arith, c.count-count.ensures.value))) ∣₁, tt)))
+invariant_of-result c = record {
+  counted = c.count-count.ensures.value;
+  places = c.loop-task.invariant.0;
+  told = ∣ (λ i l. c.loop-task.invariant.1 i (omega (arith, c.count-count.ensures.value))) ∣₁;
+}

@@ -1,4 +1,4 @@
-use Rattle.std.proofs.Common.{◌≡◌, ◌<◌, ◌≢◌, length, refl, ◌∙◌, arith, length-set, get_or-set_other, get_or-set_same, below_more}
+use Rattle.std.proofs.Common.{◌<◌, ◌≢◌, length, refl, ◌∙◌, arith, length-set, get_or-set_other, get_or-set_same, below_more}
 use Rattle.analysis.proofs.Sheets.{sixteen}
 use Rattle.analysis.proofs.sheet.Sheet.rivals.Goals as goal
 
@@ -16,10 +16,11 @@ loop-j-preserved c =
     )
 
 pub invariant_of-result : goal.invariant_of-result
-invariant_of-result c = (
-  omega (arith, c.requires, sixteen c.args.self.now),
-  (c.loop-j.invariant.0, (λ j l. let r = c.loop-j.invariant.1 j (omega arith) in (r.some, r.few), tt)),
-)
+invariant_of-result c = record {
+  few = omega (arith, c.requires, sixteen c.args.self.now);
+  places = c.loop-j.invariant.0;
+  sized = λ j l. let r = c.loop-j.invariant.1 j (omega arith) in (r.some, r.few);
+}
 
 pub returns : goal.returns
 returns c = record { count = refl; each = λ j l. c.loop-j.invariant.1 j (omega arith) }

@@ -1,4 +1,4 @@
-use Rattle.std.proofs.Common.{◌≡◌, ℕ, ◌-◌, ◌<◌, Bool, cond, eqb, length, get_or, unwrap_or, sym, refl, ap, ◌∙◌, arith, length-set}
+use Rattle.std.proofs.Common.{◌≡◌, ℕ, ◌-◌, Bool, cond, eqb, get_or, unwrap_or, refl, ap, ◌∙◌, arith, length-set}
 use Rattle.resource.specs.Seen.{Seen, RunOn}
 use Rattle.runs.specs.declared.answer.TickAnswer.TheVariants.{Run}
 use Rattle.runs.specs.Calls.{Ticked, served, put}
@@ -18,19 +18,14 @@ bounds-self-task-2 c = let f = plan-few c.args.self.now.plan in omega (arith, c.
 pub invariant_of-self-2 : goal.invariant_of-self-2
 invariant_of-self-2 c =
     let d = c.args.self.now in
-    let left = c.less_one-left.result in (
-      c.older_ages-self.ensures.places,
-      (
-        length-set d.left c.args.task left ∙ d.left_places,
-        (
-          c.records_with-self.ensures.places,
-          (
-            below-same _ _ _ c.unended-unended.ensures (unless-below (eqb left 0) c.args.task _ (omega (arith, plan-tasks d.plan, c.requires.who.1))),
-            (λ k e. let z : ◌≡◌ {A = ℕ} 0 1 = cc in absurd (omega arith), tt),
-          ),
-        ),
-      ),
-    )
+    let left = c.less_one-left.result in
+    record {
+      age_places = c.older_ages-self.ensures.places;
+      left_places = length-set d.left c.args.task left ∙ d.left_places;
+      record_places = c.records_with-self.ensures.places;
+      holder_listed = below-same _ _ _ c.unended-unended.ensures (unless-below (eqb left 0) c.args.task _ (omega (arith, plan-tasks d.plan, c.requires.who.1)));
+      under_listed = λ k e. let z : ◌≡◌ {A = ℕ} 0 1 = cc in absurd (omega arith);
+    }
 
 pub returns : goal.returns
 unfolding state_of served

@@ -1,4 +1,4 @@
-use Rattle.std.proofs.Common.{◌≡◌, unwrap_or, sym, refl, ap, ◌∙◌, arith, length-set}
+use Rattle.std.proofs.Common.{◌≡◌, unwrap_or, refl, ap, ◌∙◌, arith, length-set}
 use Rattle.resource.specs.Answers.{is_done}
 use Rattle.resource.specs.Seen.{Seen, ScrubOn}
 use Rattle.runs.specs.declared.answer.TickAnswer.TheVariants.{Scrub}
@@ -18,19 +18,14 @@ bounds-self-way-2 c = omega (arith, c.requires.which.1, plan-ways c.args.self.no
 
 pub invariant_of-self : goal.invariant_of-self
 invariant_of-self c =
-    let d = c.args.self.now in (
-      c.older_ages-self.ensures.places,
-      (
-        d.left_places,
-        (
-          length-set d.records c.args.way c.scrub_record.result ∙ d.record_places,
-          (
-            λ k e. let s : c.args.task ≡ k = cc in omega (arith, plan-tasks d.plan, c.requires.who.1),
-            (below-same 8 _ _ c.under_scrub-self.ensures (unless-below (is_done c.args.progress) c.args.way 8 (omega (arith, c.requires.which.1, plan-ways d.plan))), tt),
-          ),
-        ),
-      ),
-    )
+    let d = c.args.self.now in
+    record {
+      age_places = c.older_ages-self.ensures.places;
+      left_places = d.left_places;
+      record_places = length-set d.records c.args.way c.scrub_record.result ∙ d.record_places;
+      holder_listed = λ k e. let s : c.args.task ≡ k = cc in omega (arith, plan-tasks d.plan, c.requires.who.1);
+      under_listed = below-same 8 _ _ c.under_scrub-self.ensures (unless-below (is_done c.args.progress) c.args.way 8 (omega (arith, c.requires.which.1, plan-ways d.plan)));
+    }
 
 pub returns : goal.returns
 unfolding state_of scrubbed

@@ -1,10 +1,6 @@
-use Rattle.std.proofs.Common.{◌≡◌, ℕ, ◌+◌, ◌-◌, ◌<◌, ◌≤◌, true, ◌∷◌, length, take, drop, sym, refl, ap, ◌∙◌, subst, arith, length-drop, length-take, rules}
-use Rattle.std.proofs.lemmas.Slice.{between_to_end}
+use Rattle.std.proofs.Common.{◌<◌, length, refl, arith, length-drop, length-take}
 use Rattle.std.proofs.lemmas.Bool.Decides.{nat_tests}
-use Rattle.std.specs.List.{prefix_len}
-use Rattle.textparts.specs.declared.bytes.Class.TheVariants.{InLine}
-use Rattle.textparts.specs.Bytes.{has}
-use Rattle.textparts.proofs.Found.{line-left, line-found, line-stands}
+use Rattle.textparts.proofs.Found.{line-left, next-lined, line-found, line-stands}
 use Rattle.textparts.proofs.reader.Reader.cut_line.Goals as goal
 use Rattle.textparts.proofs.reader.Reader.cut_line.Goals.{then-self, else-self}
 
@@ -13,7 +9,15 @@ invariant_of-self c =
     let r = c.args.self.now in
     let lt : r.next < length r.text.now = let le = r.within.2 in let no = c.requires in grind (arith, nat_tests) in
     let k = line-left r.text.now r.next c.run-n.result lt c.run-n.ensures.within c.run-n.ensures.count r.lined in
-    ((omega arith, k.0, omega arith), (k.1, (k.2, (k.3, (r.lined, tt)))))
+    record {
+      within = (omega arith, k.0, elim c.if-self.branch [ then-self w ↦ omega arith | else-self w ↦ omega arith ]);
+      whole = k.1;
+      ended = k.2;
+      uncut = k.3;
+      lined = next-lined r.text.now r.next c.run-n.result c.if-self.self k.2
+          (λ h. elim c.if-self.branch [ then-self w ↦ omega (arith, w.self-is) | else-self w ↦ omega (arith, w.self-is) ])
+          (λ h. elim c.if-self.branch [ then-self w ↦ omega (arith, w.self-is) | else-self w ↦ omega (arith, w.self-is) ]);
+    }
 
 pub returns : goal.returns
 returns c =

@@ -22,7 +22,7 @@ invariant_of-self-2 c =
     let n = c.run-n.ensures in
     let at-word : AtWord r.text.now r.at r.end c.run-skipped.result c.run-n.result = record { order = r.within.0; inside = r.within.1; whole = r.whole; uncut = r.uncut; ended = r.ended; space = s.count; spaced = s.within; long = n.count; fits = n.within } in
     let k = word-left _ _ _ _ _ at-word in
-    ((k.0, r.within.1, r.within.2), (k.1, (r.ended, (k.2, (r.lined, tt)))))
+    record { within = (k.0, r.within.1, r.within.2); whole = k.1; ended = r.ended; uncut = k.2; lined = r.lined }
 
 pub returns : goal.returns
 returns c =
