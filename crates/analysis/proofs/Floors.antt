@@ -1,5 +1,5 @@
 -- What holds of the floor that a table makes.
-use Rattle.std.proofs.Common.{◌≡◌, ℕ, zero, suc, ◌+◌, ◌-◌, ◌<◌, ◌≤◌, Bool, true, false, List, [], ◌∷◌, length, is_ok, Ok, Err, sym, refl, ap, ◌∙◌, subst, ⊎_elim, arith}
+use Rattle.std.proofs.Common.{◌≡◌, ℕ, zero, suc, ◌+◌, ◌-◌, ◌<◌, ◌≤◌, Bool, true, false, List, [], ◌∷◌, length, is_ok, Ok, Err, sym, refl, ap, subst, ⊎_elim, arith}
 use mathlib.Core.Logic.{∥∥₁_elim}
 use native.Mathlib.Bridge.{le_prop}
 use native.Mathlib.Nat.{ℕ_set}
@@ -14,7 +14,7 @@ use Rattle.taskset.specs.Figures.{all_lawful, lawful}
 use Rattle.taskset.specs.Table.{Table, Lawful, both_listed, count, nothing, pair_asked, task_at, figures_of}
 use Rattle.analysis.specs.Floor.{Floor}
 use Rattle.analysis.specs.Charges.{scrub_cost}
-use Rattle.analysis.specs.Bounds.{IsLeast, IsStart, IsBound, IsBoundOf, InTime, Accepted, split_demand, whole_demand}
+use Rattle.analysis.specs.Bounds.{IsLeast, IsStart, IsBound, IsBoundOf, Accepted, split_demand, whole_demand}
 use Rattle.analysis.specs.FloorOf.{floor_of, figures_at, is_whole, FiguresOf}
 use Rattle.analysis.specs.Priced.{Priced}
 

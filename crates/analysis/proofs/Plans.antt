@@ -1,5 +1,5 @@
 -- What every plan promises.
-use Rattle.std.proofs.Common.{◌≡◌, ℕ, ◌<◌, ◌≤◌, true, Ok}
+use Rattle.std.proofs.Common.{◌≡◌, ℕ, Ok}
 use Rattle.taskset.specs.declared.task.Figures.{Figures}
 use Rattle.taskset.specs.Table.{Lawful, task_at, figures_of}
 use Rattle.taskset.proofs.Tables.{lawful-table}

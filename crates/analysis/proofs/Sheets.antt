@@ -1,10 +1,9 @@
 -- What a sheet's rows say.
 use mathlib.Core.Bool.{Bool-set}
-use Rattle.std.proofs.Common.{◌≡◌, ℕ, ◌<◌, ◌≤◌, List, sym, ◌∙◌}
+use Rattle.std.proofs.Common.{◌≡◌, ℕ, ◌<◌, ◌≤◌, List}
 use mathlib.Core.Logic.{∥∥₁_elim}
 use native.Mathlib.Bridge.{le_prop}
 use native.Mathlib.Nat.{ℕ_set}
-use Rattle.taskset.specs.View.{table}
 use Rattle.taskset.proofs.Tables.{lawful-table}
 use Rattle.analysis.specs.declared.row.Row.{Row}
 use Rattle.analysis.specs.declared.sheet.Sheet.{Sheet}

@@ -1,5 +1,5 @@
 -- How the tests before the bounds are shown.
-use Rattle.std.proofs.Common.{◌≡◌, ℕ, suc, ◌<◌, ◌≤◌, Bool, true, false, ◌&&◌, ltb, leb, List, Err, Result, sym, ap, ◌∙◌, subst, ap₂, ⊎_elim, arith, MatchResult}
+use Rattle.std.proofs.Common.{◌≡◌, ℕ, ◌<◌, ◌≤◌, Bool, true, false, ◌&&◌, ltb, leb, List, Err, Result, sym, ap, ◌∙◌, subst, ap₂, ⊎_elim, arith, MatchResult}
 use mathlib.Core.Path.{fun_ext}
 use Rattle.std.proofs.lemmas.Bool.Decides.{nat_tests, leb_tells}
 use Rattle.sets.specs.Below.{some_below}

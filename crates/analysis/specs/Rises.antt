@@ -1,6 +1,6 @@
 -- What the tasks of higher priority take never falls as the number grows.
-use Rattle.std.specs.Prelude.{◌≡◌, ℕ, zero, suc, ◌+◌, ◌-◌, ◌*◌, ◌/◌, ◌<◌, ◌≤◌}
-use Rattle.std.proofs.Common.{sym, subst, div-mul-le_self, le-div_iff_mul-le, mul-le-mul_right, arith}
+use Rattle.std.specs.Prelude.{ℕ, zero, suc, ◌+◌, ◌-◌, ◌/◌, ◌≤◌}
+use Rattle.std.proofs.Common.{div-mul-le_self, le-div_iff_mul-le, mul-le-mul_right, arith}
 use Rattle.std.proofs.Math.Nat.{div-zero}
 use Rattle.taskset.specs.declared.task.Kind.{Kind}
 use Rattle.taskset.specs.declared.task.Kind.TheVariants.{Split, Whole}

@@ -1,5 +1,5 @@
 -- The line that starts a day.
-use Rattle.std.specs.Prelude.{ℕ, Bool, true, false, cond, List, [], ◌∷◌, Some, None, codes, Option}
+use Rattle.std.specs.Prelude.{ℕ, cond, List, [], ◌∷◌, Some, None, codes, Option}
 use Rattle.std.specs.Str.{bytes_eq}
 use Rattle.textparts.specs.Spans.{Span}
 use Rattle.textparts.specs.Tokens.{Token, word, number, remark, pieces}

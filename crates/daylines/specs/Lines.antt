@@ -1,5 +1,5 @@
 -- The line of each call, at the end of what was told before it.
-use Rattle.std.specs.Prelude.{ℕ, Bool, cond, List, [], ◌∷◌, ◌++◌, Ok, Err, codes, decimal, Result}
+use Rattle.std.specs.Prelude.{ℕ, Bool, cond, List, [], ◌++◌, Ok, Err, codes, decimal, Result}
 use Rattle.refusal.specs.Told.{Told}
 use Rattle.printed.specs.Lines.{with_refusal}
 use Rattle.taskset.specs.declared.fault.DraftFault.{DraftFault}

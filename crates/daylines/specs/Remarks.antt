@@ -1,5 +1,5 @@
 -- The remarks at a day's end, each at the end of what was told before it.
-use Rattle.std.specs.Prelude.{ℕ, ◌-◌, Bool, cond, List, ◌++◌, codes, decimal, ◌==◌, nat_lt, slice_index_or}
+use Rattle.std.specs.Prelude.{ℕ, ◌-◌, cond, List, ◌++◌, codes, decimal, ◌==◌, nat_lt, slice_index_or}
 use Rattle.daylines.specs.declared.book.Book.{Book}
 
 -- a label, and a count after it

@@ -1,7 +1,7 @@
 -- What an announcement and a finish answer and leave, case by case.
-use Rattle.std.proofs.Common.{◌≡◌, ℕ, ◌<◌, ◌≤◌, Bool, true, false, cond, eqb, ltb, Ok, Err, Result, sym, refl, ap, ◌∙◌, subst, arith}
+use Rattle.std.proofs.Common.{◌≡◌, ℕ, ◌<◌, ◌≤◌, true, false, eqb, ltb, Ok, Err, Result, sym, refl, subst, arith}
 use Rattle.std.proofs.lemmas.Bool.Decides.{nat_tests}
-use Rattle.refusal.specs.Outcome.{after, answered}
+use Rattle.refusal.specs.Outcome.{after}
 use Rattle.refusal.proofs.Outcomes.{answered-at}
 use Rattle.resource.specs.Seen.{Seen}
 use Rattle.analysis.specs.Floor.{Floor}

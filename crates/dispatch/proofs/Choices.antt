@@ -1,19 +1,18 @@
 -- Who has the next tick and which way is scrubbed for it, by a dispatcher's fields.
-use Rattle.std.proofs.Common.{◌≡◌, ℕ, ◌<◌, ◌≤◌, Bool, true, false, cond, ◌&&◌, ◌||◌, ltb, get_or, is_some, Some, None, Option, unwrap_or, sym, refl, ap, ◌∙◌, subst, ⊎_elim, arith}
+use Rattle.std.proofs.Common.{◌≡◌, ℕ, ◌<◌, Bool, true, false, cond, ◌&&◌, ◌||◌, ltb, is_some, Some, None, Option, unwrap_or, sym, ap, ◌∙◌, subst, arith}
 use Rattle.std.proofs.lemmas.Bool.Decides.{nat_tests}
-use Rattle.sets.specs.Below.{some_below}
 use Rattle.sets.specs.Sets.{names}
 use Rattle.sets.proofs.Below.{some-true, some-false}
 use Rattle.analysis.specs.Sums.{first_below}
 use Rattle.analysis.specs.FloorOf.{floor_of}
-use Rattle.runs.specs.State.{State, pending, stays, chosen, tainted, scrub_way}
+use Rattle.runs.specs.State.{pending, stays, chosen, tainted, scrub_way}
 use Rattle.dispatch.specs.declared.dispatcher.Dispatcher.{Dispatcher}
 use Rattle.dispatch.specs.Later.{FirstJob}
 use Rattle.dispatch.specs.Optional.{StandsFor}
 use Rattle.dispatch.specs.View.{floor, state_of, record_at, task_ways}
 use Rattle.dispatch.proofs.Firsts.{first-is, first-none}
 use Rattle.dispatch.proofs.Optionals.{some-in-range, stands-some}
-use Rattle.dispatch.proofs.Plans.{plan-tasks, plan-ways}
+use Rattle.dispatch.proofs.Plans.{plan-ways}
 
 module _ (d : Dispatcher) where
   -- a way under scrub

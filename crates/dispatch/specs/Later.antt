@@ -1,5 +1,5 @@
 -- What a tick leaves, as the dispatcher's arrays.
-use Rattle.std.specs.Prelude.{◌≡◌, ℕ, ◌<◌, Bool, true, false, ◌&&◌, ◌||◌, List, length, Some, None, Option, ◌==◌, nat_lt, slice_index}
+use Rattle.std.specs.Prelude.{◌≡◌, ℕ, ◌<◌, true, false, ◌&&◌, ◌||◌, List, length, Some, None, Option, ◌==◌, nat_lt, slice_index}
 use Rattle.sets.specs.declared.task_set.TaskSet.{TaskSet}
 use Rattle.runs.specs.Calls.{older}
 use Rattle.dispatch.specs.declared.dispatcher.Dispatcher.{Dispatcher}

@@ -5,7 +5,6 @@ use Rattle.sets.specs.Sets.{holds}
 use Rattle.sets.specs.declared.task_set.TaskSet.{TaskSet}
 use Rattle.sets.specs.declared.way_set.WaySet.{WaySet}
 use Rattle.taskset.specs.declared.task.Figures.{Figures}
-use Rattle.taskset.specs.Table.{count}
 use Rattle.analysis.specs.Floor.{Floor}
 use Rattle.analysis.specs.FloorOf.{figures_at}
 use Rattle.analysis.specs.declared.plan.Plan.{Plan}

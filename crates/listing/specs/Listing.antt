@@ -1,5 +1,5 @@
 -- The lines that tell what was read from a table text, each at the end of what was written before it.
-use Rattle.std.specs.Prelude.{ℕ, zero, suc, cond, ◌&&◌, List, [], ◌∷◌, ◌++◌, Ok, Err, codes, decimal, Result}
+use Rattle.std.specs.Prelude.{ℕ, zero, suc, cond, ◌&&◌, List, [], ◌++◌, Ok, Err, codes, decimal, Result}
 use Rattle.sets.specs.Sets.{names}
 use Rattle.sets.specs.declared.way_set.WaySet.{WaySet}
 use Rattle.taskset.specs.declared.fault.DraftFault.{DraftFault}

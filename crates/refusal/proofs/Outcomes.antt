@@ -1,5 +1,5 @@
 -- A call's answer and what stands after it, where what it makes of the thing is known.
-use Rattle.std.proofs.Common.{◌≡◌, Ok, Err, Result, sym, ap}
+use Rattle.std.proofs.Common.{◌≡◌, Result, sym, ap}
 use Rattle.refusal.specs.Outcome.{after, answered}
 
 pub answered-at : {S A E : Type 0} (a : A) {o p : Result S E} → o ≡ p → answered a p ≡ answered a o

@@ -12,7 +12,7 @@ use Rattle.dispatch.specs.Lasting.{RunGoesOn}
 use Rattle.dispatch.specs.View.{floor, state_of}
 use Rattle.daylines.specs.Lines.{with_announced, with_finished, with_odd, with_ticked}
 use Rattle.replay.specs.Asked.{Ask, also, announces, finishes, one_tick, no_call}
-use Rattle.replay.specs.Told.{Told, Stands, Goes, number_of, next_tick, odd, announced, finished, ticked}
+use Rattle.replay.specs.Told.{Told, Goes, number_of, next_tick, odd, announced, finished, ticked}
 
 -- with an event that every run goes on with, once it is told
 goes : (text : List ℕ) (tasks : List Task) (a : Ask) (out : List ℕ) (n : ℕ) (d : Dispatcher) (x : Seen) (later : List ℕ) (m : ℕ) (e : Dispatcher) (y : Seen) (v : Event)

@@ -1,5 +1,5 @@
 -- The analysis on an empty way cache of eight ways.
-use Rattle.std.proofs.Common.{◌≡◌, ℕ, zero, suc, ◌+◌, ◌-◌, ◌/◌, ◌<◌, ◌≤◌, min, Bool, true, false, cond, ltb, List, [], length, get_or, replicate, Ok, Err, Result, sym, refl, ap, ◌∙◌, subst, ⊎_elim, arith}
+use Rattle.std.proofs.Common.{◌≡◌, ℕ, zero, suc, ◌-◌, ◌/◌, ◌<◌, min, Bool, true, false, cond, ltb, List, length, get_or, replicate, Ok, Err, Result, sym, refl, ap, ◌∙◌, subst, ⊎_elim, arith}
 use mathlib.Core.Path.{fun_ext}
 use lib.ListN.{length-replicate}
 use Rattle.std.proofs.lemmas.Bool.Decides.{leb_tells}
@@ -16,7 +16,7 @@ use Rattle.analysis.specs.PlanOf.{plan_bound}
 use Rattle.analysis.specs.Verdict.{asked_floor}
 use Rattle.analysis.proofs.Floors.{in-range}
 use Rattle.way_cache.specs.Marks.{marks_seen, ways_in}
-use Rattle.report.specs.Report.{box_floor, Settled, SettledIf}
+use Rattle.report.specs.Report.{box_floor, SettledIf}
 
 -- 256 marks are eight ways
 pub eight-ways : (marks : List ℕ) → length marks ≡ 256 → ways_in marks ≡ 8

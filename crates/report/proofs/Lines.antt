@@ -1,14 +1,14 @@
 -- The lines of a report: how long they are, and how they follow one another.
-use Rattle.std.proofs.Common.{◌≡◌, ℕ, zero, suc, ◌+◌, ◌*◌, ◌^◌, ◌<◌, ◌≤◌, List, [], ◌∷◌, ◌++◌, length, Ok, Err, codes, decimal, Result, sym, refl, ap, ◌∙◌, arith, length-append}
+use Rattle.std.proofs.Common.{◌≡◌, ℕ, zero, suc, ◌+◌, ◌^◌, ◌<◌, ◌≤◌, List, [], ◌∷◌, ◌++◌, length, Ok, Err, codes, decimal, Result, sym, refl, ap, arith, length-append}
 use Rattle.std.proofs.lemmas.Fmt.{length-decimal-le}
 use Rattle.std.proofs.lemmas.List.Edits.{paste_none}
 use Rattle.std.specs.List.{AllByRecursion}
 use Rattle.tabletext.specs.Laws.{WellNamed}
 use Rattle.taskset.specs.declared.fault.DraftFault.{DraftFault}
 use Rattle.taskset.specs.declared.task.Task.{Task}
-use Rattle.taskset.specs.Table.{task_at, name_in, name_of}
+use Rattle.taskset.specs.Table.{task_at, name_of}
 use Rattle.report.specs.Page.{put, row}
-use Rattle.report.specs.Rows.{row_of, rows_below}
+use Rattle.report.specs.Rows.{row_of}
 use Rattle.report.proofs.Puts.{length-row, more}
 
 -- an answer that is not refused is not a refusal

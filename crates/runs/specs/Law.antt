@@ -2,10 +2,9 @@
 use Rattle.std.specs.Prelude.{◌≡◌, ℕ, ◌+◌, ◌<◌, ◌≤◌, Bool, true, false, ◌&&◌, ◌⊎◌, List, [], ◌∷◌, ◌++◌, Result, nat_lt}
 use Rattle.resource.specs.Seen.{Seen}
 use Rattle.analysis.specs.Floor.{Floor}
-use Rattle.runs.specs.declared.answer.TickAnswer.{TickAnswer}
 use Rattle.runs.specs.declared.answer.TickAnswer.TheVariants.{Run}
 use Rattle.runs.specs.declared.fault.CallFault.{CallFault}
-use Rattle.runs.specs.History.{Event, announce, finish, tick, refused, takes, finishes, runs, scrubs, is_tick, count, some, since_batch, had_batch, allowances}
+use Rattle.runs.specs.History.{Event, announce, tick, refused, takes, finishes, runs, scrubs, is_tick, count, some, since_batch, had_batch, allowances}
 
 -- an announcement of task i would come too early: a batch of it was taken, and fewer ticks than its period have followed the last
 abbrev pub early : Floor → ℕ → List Event → Bool

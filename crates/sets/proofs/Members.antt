@@ -1,5 +1,5 @@
 -- What the operations on a number's bits do to its members.
-use Rattle.std.proofs.Common.{◌≡◌, ℕ, zero, suc, ◌+◌, ◌-◌, ◌*◌, ◌/◌, ◌%◌, ◌^◌, ◌<◌, ◌≤◌, max, Bool, true, false, cond, not, ◌&&◌, ◌||◌, eqb, ltb, leb, sym, refl, ap, ◌∙◌, ⊎_elim, mod-eq_of_lt, mul_assoc, pow-suc, zero-mul, div-one, arith, true-eqb, false-eqb}
+use Rattle.std.proofs.Common.{◌≡◌, ℕ, zero, suc, ◌+◌, ◌-◌, ◌*◌, ◌/◌, ◌%◌, ◌^◌, ◌<◌, ◌≤◌, max, true, false, not, ◌&&◌, ◌||◌, eqb, ltb, leb, sym, refl, ap, ◌∙◌, ⊎_elim, mod-eq_of_lt, mul_assoc, pow-suc, zero-mul, div-one, arith, true-eqb, false-eqb}
 use native.Mathlib.Nat.{mul-div-mul_right, div-eq_of_lt, mul-mod_left}
 use lib.Bits.{bit_or, or_step}
 use lib.Pow.{pow-lt, mod-mod-pow}

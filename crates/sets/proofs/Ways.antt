@@ -1,5 +1,5 @@
 -- The set without a way, and a set with one way more, by their members.
-use Rattle.std.proofs.Common.{◌≡◌, ℕ, suc, Bool, true, false, cond, ◌&&◌, ◌||◌, eqb, ltb, refl, ap, ◌∙◌, ⊎_elim, arith}
+use Rattle.std.proofs.Common.{◌≡◌, ℕ, suc, false, ◌&&◌, ◌||◌, eqb, ltb, ⊎_elim, arith}
 use Rattle.std.proofs.lemmas.Bool.Decides.{nat_tests, leb_tells}
 use Rattle.sets.specs.Sets.{names, no_ways, with_way}
 use Rattle.sets.specs.declared.way_set.WaySet.{WaySet}

@@ -1,5 +1,5 @@
 -- The shapes of a line's words, checked from left to right.
-use Rattle.std.proofs.Common.{◌≡◌, ℕ, ◌+◌, ◌<◌, ◌≤◌, Bool, true, false, cond, ◌&&◌, ◌⊎◌, List, [], ◌∷◌, map, length, Ok, Err, Result, sym, refl, ap, ◌∙◌, subst, inl, inr, ⊎_elim, arith}
+use Rattle.std.proofs.Common.{◌≡◌, ℕ, ◌<◌, ◌≤◌, true, false, cond, List, [], ◌∷◌, length, Ok, Err, Result, sym, refl, inl, inr, ⊎_elim, arith}
 use Rattle.std.specs.List.{AllByRecursion}
 use Rattle.sets.specs.declared.way_set.WaySet.{WaySet}
 use Rattle.taskset.specs.declared.task.Kind.{Kind}
@@ -10,11 +10,11 @@ use Rattle.textparts.specs.Tokens.{Token, span}
 use Rattle.tabletext.specs.declared.fault.LineFault.{LineFault}
 use Rattle.tabletext.specs.declared.fault.LineFault.TheVariants.{OddWord}
 use Rattle.tabletext.specs.Faulty.{bytes, place, Check, check, checks, WrongAt, task_said}
-use Rattle.tabletext.specs.Forms.{TaskWords, PairWords, Form, skipped, task, noleak, next}
+use Rattle.tabletext.specs.Forms.{TaskWords, PairWords, task, noleak, next}
 use Rattle.tabletext.specs.Lines.{carried, fresh, known, task_line, pair_line}
 use Rattle.tabletext.specs.Words.{name_word, number_word, ways_word, kind_word, is_ways, ways_of, is_kind, kind_of}
-use Rattle.tabletext.proofs.Answer.{test-step, both, true-false, err-ok, ok-err, err-same, bool_tells}
-use Rattle.tabletext.proofs.Pieces.{Honest, Fine, six_of, two_of}
+use Rattle.tabletext.proofs.Answer.{test-step, both, err-ok, ok-err, err-same}
+use Rattle.tabletext.proofs.Pieces.{Fine, six_of, two_of}
 
 -- the first word of the wrong shape
 abbrev pub first_wrong : List Check → Result (Unit {0}) LineFault

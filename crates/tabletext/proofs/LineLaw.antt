@@ -1,5 +1,5 @@
 -- Reading a line reports its first fault, or no fault applies to it and the table is what it says.
-use Rattle.std.proofs.Common.{◌≡◌, ℕ, zero, suc, ◌+◌, ◌<◌, ◌≤◌, Bool, true, false, cond, ◌&&◌, eqb, ltb, ◌⊎◌, List, [], ◌∷◌, length, get_or, Some, None, Ok, Err, codes, Option, Result, unwrap_or, sym, refl, ap, ◌∙◌, subst, inl, inr, ⊎_elim, arith}
+use Rattle.std.proofs.Common.{◌≡◌, ℕ, zero, suc, ◌+◌, ◌<◌, ◌≤◌, Bool, true, false, cond, eqb, ltb, List, [], ◌∷◌, length, get_or, Some, None, Ok, Err, codes, Option, Result, unwrap_or, sym, refl, ap, ◌∙◌, subst, inl, inr, ⊎_elim, arith}
 use Rattle.std.specs.Option.{ok_or}
 use Rattle.std.specs.List.{prefix_len}
 use Rattle.std.specs.Str.{bytes_eq}
@@ -10,12 +10,12 @@ use Rattle.taskset.specs.declared.fault.DraftFault.{DraftFault}
 use Rattle.taskset.specs.declared.fault.DraftFault.TheVariants.{FullTable, WildFigure, Itself, Unlisted}
 use Rattle.taskset.specs.declared.task.Task.{Task}
 use Rattle.taskset.specs.Figures.{lawful}
-use Rattle.taskset.specs.Table.{Table, count, added, paired, both_listed, with_task, with_pair, name_in}
+use Rattle.taskset.specs.Table.{Table, count, paired, both_listed, with_task, with_pair, name_in}
 use Rattle.textparts.specs.declared.bytes.Class.TheVariants.{Printable}
 use Rattle.textparts.specs.Bytes.{has}
 use Rattle.textparts.specs.Laws.{Stands}
 use Rattle.textparts.specs.Spans.{Span}
-use Rattle.textparts.specs.Tokens.{Token, word, number, remark, span, pieces}
+use Rattle.textparts.specs.Tokens.{Token, word, number, remark, pieces}
 use Rattle.textparts.proofs.Runs.{run-yes, run-stop}
 use Rattle.tabletext.specs.declared.fault.LineFault.{LineFault}
 use Rattle.tabletext.specs.declared.fault.LineFault.TheVariants.{StrayByte, OddLine, OddWord, TwiceNamed, Unnamed, Draft}
@@ -23,8 +23,8 @@ use Rattle.tabletext.specs.Faults.{line_told}
 use Rattle.tabletext.specs.Faulty.{bytes, place, checks, WrongAt, named, figures_said, task_said, StrayAt, AppliesTo, form_of, FirstOf, NoneOf, number_of, said_by}
 use Rattle.tabletext.specs.Forms.{TaskWords, PairWords, Form, skipped, task, noleak, task_words, pair_words, form, next}
 use Rattle.tabletext.specs.Laws.{is_named}
-use Rattle.tabletext.specs.Lines.{carried, find_from, unstray, free, fresh, known, task_line, pair_line, form_read, line_read}
-use Rattle.tabletext.proofs.Answer.{both, bool_tells, true-false, err-ok, ok-err, ok_same, err-same}
+use Rattle.tabletext.specs.Lines.{carried, find_from, free, form_read, line_read}
+use Rattle.tabletext.proofs.Answer.{both, true-false, ok-err, err-same}
 use Rattle.tabletext.proofs.Checks.{first_wrong, none-wrong, leftmost-wrong, task-checked, pair-checked, task-rise, pair-rise}
 use Rattle.tabletext.proofs.Names.{Found, find-tells, same_bytes}
 use Rattle.tabletext.proofs.Pieces.{Fine, six_of, two_of, task-fine, pair-fine}

@@ -1,22 +1,21 @@
 -- What is known of the pieces of a line.
-use Rattle.std.proofs.Common.{◌≡◌, ℕ, ◌+◌, ◌<◌, ◌≤◌, Bool, true, false, cond, not, ◌&&◌, ◌||◌, eqb, ltb, leb, ◌⊎◌, List, [], ◌∷◌, map, length, get_or, Ok, Err, codes, Result, sym, refl, ap, ◌∙◌, subst, inl, inr, ⊎_elim, arith}
+use Rattle.std.proofs.Common.{◌≡◌, ℕ, ◌<◌, true, false, cond, ◌⊎◌, List, [], ◌∷◌, map, length, Ok, Err, codes, sym, refl, ap, ◌∙◌, subst, inl, inr, ⊎_elim, arith}
 use Rattle.std.specs.List.{AllByRecursion}
 use Rattle.std.specs.Str.{bytes_eq}
 use Rattle.std.proofs.lemmas.Bool.Decides.{nat_tests}
-use Rattle.textparts.specs.declared.bytes.Class.TheVariants.{Letter, Digit, NameByte}
+use Rattle.textparts.specs.declared.bytes.Class.TheVariants.{Digit}
 use Rattle.textparts.specs.Bytes.{has, each}
 use Rattle.textparts.specs.Laws.{Stands}
 use Rattle.textparts.specs.Shapes.{is_name, is_number, worth}
-use Rattle.textparts.specs.Spans.{Span, at, words}
+use Rattle.textparts.specs.Spans.{Span, words}
 use Rattle.textparts.specs.Tokens.{Token, word, number, remark, span, told, pieces}
 use Rattle.textparts.proofs.Order.{Rising, words-rise, line-words-stand, remark-or-words}
 use Rattle.textparts.proofs.Runs.{each_at}
-use Rattle.tabletext.specs.declared.fault.LineFault.{LineFault}
 use Rattle.tabletext.specs.declared.fault.LineFault.TheVariants.{OddLine, OddWord}
 use Rattle.tabletext.specs.Faulty.{bytes, place, form_of}
 use Rattle.tabletext.specs.Forms.{TaskWords, PairWords, Form, skipped, task, noleak, task_words, pair_words, form, next}
 use Rattle.tabletext.specs.Words.{name_word, number_word}
-use Rattle.tabletext.proofs.Answer.{err-ok, ok_same, next-ok, both}
+use Rattle.tabletext.proofs.Answer.{err-ok, ok_same, next-ok}
 
 -- no number is a name
 pub number-no-name : (bs : List ℕ) → is_number bs ≡ true → is_name bs ≡ false

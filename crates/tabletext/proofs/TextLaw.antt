@@ -1,5 +1,5 @@
 -- Reading a text reports its first fault, or leaves what its lines say.
-use Rattle.std.proofs.Common.{◌≡◌, ℕ, zero, suc, ◌+◌, ◌<◌, ◌≤◌, Bool, true, false, cond, ◌&&◌, ◌||◌, eqb, leb, ◌⊎◌, List, [], ◌∷◌, ◌++◌, map, length, take, drop, Some, None, Ok, Err, Option, Result, unwrap_or, sym, refl, ap, ◌∙◌, subst, inl, inr, ⊎_elim, append_assoc, append-nil, arith, length-take-le}
+use Rattle.std.proofs.Common.{◌≡◌, ℕ, ◌+◌, ◌≤◌, Bool, true, false, cond, ◌&&◌, ◌||◌, eqb, leb, List, [], ◌∷◌, ◌++◌, map, length, take, drop, Some, None, Ok, Err, Option, Result, unwrap_or, sym, refl, ap, ◌∙◌, subst, inl, inr, ⊎_elim, append_assoc, append-nil, arith}
 use Rattle.std.specs.List.{flat_map, AllByRecursion}
 use Rattle.std.proofs.ByRecursion.{All-append}
 use Rattle.std.proofs.lemmas.List.{map-append}
@@ -18,8 +18,8 @@ use Rattle.tabletext.specs.declared.fault.LineFault.TheVariants.{OddWord, TwiceN
 use Rattle.tabletext.specs.declared.fault.TextFault.{TextFault}
 use Rattle.tabletext.specs.declared.fault.TextFault.TheVariants.{LongText, Line}
 use Rattle.tabletext.specs.Faulty.{bytes, place, named, task_said, form_of, FirstOf, NoneOf, number_of, said_by, said}
-use Rattle.tabletext.specs.Forms.{TaskWords, PairWords, Form, skipped, task, noleak}
-use Rattle.tabletext.specs.Laws.{all_said, Faultless, FirstFault, task_in, name_of_line, is_named, says_pair, some_line, WellNamed, ReadWell, ReadLaws}
+use Rattle.tabletext.specs.Forms.{TaskWords, Form, skipped, task, noleak}
+use Rattle.tabletext.specs.Laws.{all_said, Faultless, task_in, name_of_line, is_named, says_pair, some_line, WellNamed, ReadWell, ReadLaws}
 use Rattle.tabletext.specs.Lines.{find_from, line_read}
 use Rattle.tabletext.specs.Read.{onward, read_lines, read_text}
 use Rattle.tabletext.proofs.Answer.{both, bool_tells}

@@ -1,5 +1,5 @@
 -- When each refusal applies to a line, in words of its own, and which of those that apply comes first.
-use Rattle.std.specs.Prelude.{◌≡◌, ℕ, zero, suc, ◌+◌, ◌<◌, ◌≤◌, Bool, true, false, cond, ◌||◌, ◌⊎◌, List, [], ◌∷◌, length, Ok, Err, Result, slice_index}
+use Rattle.std.specs.Prelude.{◌≡◌, ℕ, ◌+◌, ◌<◌, ◌≤◌, Bool, true, false, ◌||◌, ◌⊎◌, List, [], ◌∷◌, length, Ok, Err, Result, slice_index}
 use Rattle.std.specs.Option.{unwrap_or}
 use Rattle.std.specs.Str.{bytes_eq}
 use Rattle.refusal.specs.Told.{Told}
@@ -16,7 +16,7 @@ use Rattle.textparts.specs.Tokens.{Token, span, pieces}
 use Rattle.tabletext.specs.declared.fault.LineFault.{LineFault}
 use Rattle.tabletext.specs.declared.fault.LineFault.TheVariants.{StrayByte, OddLine, OddWord, TwiceNamed, Unnamed, Draft}
 use Rattle.tabletext.specs.Faults.{line_told}
-use Rattle.tabletext.specs.Forms.{TaskWords, PairWords, Form, skipped, task, noleak, form}
+use Rattle.tabletext.specs.Forms.{TaskWords, Form, skipped, task, noleak, form}
 use Rattle.tabletext.specs.Lines.{find_from}
 use Rattle.tabletext.specs.Words.{is_ways, ways_of, is_kind, kind_of}
 

@@ -1,5 +1,5 @@
 -- The forms of a line.
-use Rattle.std.specs.Prelude.{Bool, true, false, cond, List, [], ◌∷◌, Ok, Err, codes, Result}
+use Rattle.std.specs.Prelude.{cond, List, [], ◌∷◌, Ok, Err, codes, Result}
 use Rattle.std.specs.Str.{bytes_eq}
 use Rattle.textparts.specs.Tokens.{Token, word, number, remark}
 use Rattle.tabletext.specs.declared.fault.LineFault.{LineFault}

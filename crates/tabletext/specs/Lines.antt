@@ -1,5 +1,5 @@
 -- What reading a line makes of a table, fault after fault in their order.
-use Rattle.std.specs.Prelude.{ℕ, ◌+◌, Bool, true, false, cond, List, [], ◌∷◌, length, Some, None, Ok, Err, Option, Result, ◌==◌}
+use Rattle.std.specs.Prelude.{ℕ, ◌+◌, cond, List, [], ◌∷◌, length, Some, None, Ok, Err, Option, Result, ◌==◌}
 use Rattle.std.specs.Option.{ok_or}
 use Rattle.std.specs.List.{prefix_len}
 use Rattle.std.specs.Str.{bytes_eq}
@@ -9,7 +9,7 @@ use Rattle.taskset.specs.Table.{Table, added, paired, name_in}
 use Rattle.textparts.specs.declared.bytes.Class.TheVariants.{Printable}
 use Rattle.textparts.specs.Bytes.{has}
 use Rattle.textparts.specs.Spans.{Span}
-use Rattle.textparts.specs.Tokens.{Token, pieces}
+use Rattle.textparts.specs.Tokens.{pieces}
 use Rattle.tabletext.specs.declared.fault.LineFault.{LineFault}
 use Rattle.tabletext.specs.declared.fault.LineFault.TheVariants.{StrayByte, TwiceNamed, Unnamed, Draft}
 use Rattle.tabletext.specs.Forms.{TaskWords, PairWords, Form, skipped, task, noleak, form, next}

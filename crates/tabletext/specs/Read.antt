@@ -1,5 +1,5 @@
 -- What reading a whole text makes of a table.
-use Rattle.std.specs.Prelude.{ℕ, Bool, true, false, cond, List, [], ◌∷◌, length, Ok, Err, Result, nat_le}
+use Rattle.std.specs.Prelude.{ℕ, cond, List, [], ◌∷◌, length, Ok, Err, Result, nat_le}
 use Rattle.taskset.specs.Table.{Table, nothing}
 use Rattle.textparts.specs.Spans.{Span, lines}
 use Rattle.tabletext.specs.declared.fault.FaultAt.{FaultAt}

@@ -1,12 +1,12 @@
 -- The steps and laws of a reader at the very bytes that its code cuts out of the text.
-use Rattle.std.proofs.Common.{◌≡◌, ℕ, zero, suc, ◌+◌, ◌-◌, ◌<◌, ◌≤◌, Bool, true, false, cond, not, ◌&&◌, ◌||◌, eqb, ltb, leb, List, [], ◌∷◌, map, length, get_or, take, drop, sym, refl, ap, ◌∙◌, subst, ⊎_elim, add-zero, one-add, arith, length-drop, length-take, length-take-le}
+use Rattle.std.proofs.Common.{◌≡◌, ℕ, suc, ◌+◌, ◌-◌, ◌<◌, ◌≤◌, Bool, true, false, cond, ◌&&◌, ◌||◌, eqb, leb, List, [], ◌∷◌, map, length, take, drop, sym, refl, ap, ◌∙◌, subst, ⊎_elim, add-zero, one-add, arith, length-drop, length-take-le}
 use Rattle.std.specs.List.{prefix_len}
 use Rattle.std.proofs.lemmas.Slice.{between_to_end}
 use Rattle.std.proofs.lemmas.Bool.Decides.{nat_tests, leb_tells}
 use Rattle.textparts.specs.declared.bytes.Class.TheVariants.{InLine, Space, InWord}
 use Rattle.textparts.specs.Bytes.{has, each}
-use Rattle.textparts.specs.Spans.{Span, at, lines, words}
-use Rattle.textparts.specs.Tokens.{Token, remark, told, pieces, hashed}
+use Rattle.textparts.specs.Spans.{at, lines, words}
+use Rattle.textparts.specs.Tokens.{remark, told, pieces, hashed}
 use Rattle.textparts.specs.Laws.{ends, gap, opens, closes, LineIn, PieceIn, RemarkIn}
 use Rattle.textparts.proofs.Runs.{run-each, each-drop, true-not-false}
 use Rattle.textparts.proofs.Steps.{no_line, next-line, next_word, no_word, past-spaces, past}

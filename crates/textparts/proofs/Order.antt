@@ -1,13 +1,13 @@
 -- That lines and words stand in the text, in rising order, and that a line is a remark or its words.
-use Rattle.std.proofs.Common.{◌≡◌, ℕ, zero, suc, ◌+◌, ◌<◌, ◌≤◌, Bool, true, false, cond, not, eqb, ◌⊎◌, List, [], ◌∷◌, map, length, get_or, take, drop, sym, refl, ap, ◌∙◌, subst, inl, inr, ⊎_elim, add-one, arith}
+use Rattle.std.proofs.Common.{◌≡◌, ℕ, suc, ◌+◌, ◌<◌, ◌≤◌, true, false, cond, not, eqb, ◌⊎◌, List, [], ◌∷◌, map, length, get_or, take, drop, sym, refl, ap, ◌∙◌, subst, inl, inr, arith}
 use Rattle.std.specs.List.{AllByRecursion}
 use Rattle.std.proofs.ByRecursion.{All-weaker}
 use Rattle.std.proofs.lemmas.List.{drop_more}
-use Rattle.textparts.specs.declared.bytes.Class.TheVariants.{InLine, Space, InWord}
+use Rattle.textparts.specs.declared.bytes.Class.TheVariants.{InLine, Space}
 use Rattle.textparts.specs.Bytes.{has}
 use Rattle.textparts.specs.Laws.{Stands}
 use Rattle.textparts.specs.Spans.{Span, at, longer, lines, begins, words}
-use Rattle.textparts.specs.Tokens.{Token, remark, told, pieces}
+use Rattle.textparts.specs.Tokens.{remark, told, pieces}
 
 abbrev tail : {A : Type 0} → List A → List A
 tail [] = []

@@ -1,16 +1,15 @@
 -- That what a reader hands out stands in the text as its laws say. In each lemma t is the text, and u the bytes from place a to e, which are left of a line.
-use Rattle.std.proofs.Common.{◌≡◌, ℕ, zero, suc, ◌+◌, ◌-◌, ◌<◌, ◌≤◌, Bool, true, false, cond, not, ◌&&◌, ◌||◌, eqb, leb, List, [], ◌∷◌, length, get_or, take, drop, sym, refl, ap, ◌∙◌, subst, ⊎_elim, arith, length-drop, length-take, length-take-le}
+use Rattle.std.proofs.Common.{◌≡◌, ℕ, zero, suc, ◌+◌, ◌-◌, ◌<◌, ◌≤◌, true, false, cond, not, ◌||◌, leb, List, [], length, get_or, take, drop, sym, refl, ap, ◌∙◌, subst, ⊎_elim, arith, length-drop, length-take-le}
 use Rattle.std.specs.List.{prefix_len}
 use Rattle.std.proofs.lemmas.List.{get_or-drop, get_or-take, drop-drop, drop-take, take-take}
-use Rattle.std.proofs.lemmas.List.Sums.{prefix_len-le-length}
 use Rattle.std.proofs.lemmas.Bool.Decides.{nat_tests}
 use Rattle.std.proofs.str.Laws.{order}
 use Rattle.textparts.specs.declared.bytes.Class.TheVariants.{InLine, Space, InWord}
 use Rattle.textparts.specs.Bytes.{has, each}
 use Rattle.textparts.specs.Shapes.{is_number, worth}
 use Rattle.textparts.specs.Spans.{Span, at}
-use Rattle.textparts.specs.Tokens.{Token, word, number, told, hashed}
-use Rattle.textparts.specs.Laws.{ends, gap, opens, closes, Stands, Longest, LineIn, WordIn, RemarkIn, PieceIn}
+use Rattle.textparts.specs.Tokens.{word, number, told, hashed}
+use Rattle.textparts.specs.Laws.{ends, gap, opens, closes, Stands, LineIn, WordIn, RemarkIn, PieceIn}
 use Rattle.textparts.proofs.Runs.{run-yes, run-stop, run-each, each_at, each-drop, each_take, each_both}
 
 -- a part of the text stands in it

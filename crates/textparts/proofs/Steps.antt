@@ -1,13 +1,11 @@
 -- How the lines and the words of a list of bytes go on after the first.
-use Rattle.std.proofs.Common.{◌≡◌, ℕ, suc, ◌+◌, ◌-◌, ◌<◌, ◌≤◌, Bool, true, false, cond, not, List, [], ◌∷◌, length, take, drop, sym, refl, ap, ◌∙◌, subst, ⊎_elim, add-zero, add_assoc, zero-add, add-one, one-add, arith, length-drop, length-take}
-use native.Mathlib.Numerals.{unary_clauses}
-use Rattle.std.proofs.lemmas.List.{drop_all, drop-drop, drop-take}
-use Rattle.std.proofs.lemmas.Slice.{between_to_end}
+use Rattle.std.proofs.Common.{◌≡◌, ℕ, suc, ◌+◌, ◌<◌, ◌≤◌, Bool, true, false, cond, not, List, [], ◌∷◌, length, take, drop, sym, refl, ap, ◌∙◌, subst, ⊎_elim, add-zero, add-one, one-add, arith, length-drop}
+use Rattle.std.proofs.lemmas.List.{drop_all, drop-drop}
 use Rattle.std.proofs.str.Laws.{order}
 use Rattle.std.specs.List.{prefix_len}
 use Rattle.textparts.specs.declared.bytes.Class.TheVariants.{InLine, Space, InWord}
 use Rattle.textparts.specs.Bytes.{has}
-use Rattle.textparts.specs.Spans.{Span, at, longer, lines, begins, words}
+use Rattle.textparts.specs.Spans.{at, longer, lines, words}
 
 -- the first line, and the others
 pub first-line : (p b : ℕ) (bs : List ℕ) → lines p (b ∷ bs) ≡ at p (take (prefix_len (has InLine) (b ∷ bs)) (b ∷ bs)) ∷ lines (p + prefix_len (has InLine) (b ∷ bs) + 1) (drop (prefix_len (has InLine) (b ∷ bs) + 1) (b ∷ bs))

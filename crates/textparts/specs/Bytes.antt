@@ -1,5 +1,5 @@
 -- The classes of bytes that a text is cut by.
-use Rattle.std.specs.Prelude.{ℕ, Bool, true, false, not, ◌&&◌, ◌||◌, List, [], ◌∷◌, ◌==◌, nat_le}
+use Rattle.std.specs.Prelude.{ℕ, Bool, true, not, ◌&&◌, ◌||◌, List, [], ◌∷◌, ◌==◌, nat_le}
 use Rattle.textparts.specs.declared.bytes.Class.{Class}
 use Rattle.textparts.specs.declared.bytes.Class.TheVariants.{InLine, Space, InWord, Printable, Letter, Digit, NameByte}
 

@@ -1,5 +1,5 @@
 -- The lines of a text and the words of a line, each with its place.
-use Rattle.std.specs.Prelude.{ℕ, ◌+◌, Bool, true, false, cond, List, [], ◌∷◌}
+use Rattle.std.specs.Prelude.{ℕ, ◌+◌, Bool, false, cond, List, [], ◌∷◌}
 use Rattle.textparts.specs.declared.bytes.Class.TheVariants.{InLine, Space, InWord}
 use Rattle.textparts.specs.Bytes.{has}
 

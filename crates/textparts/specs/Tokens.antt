@@ -1,5 +1,5 @@
 -- The pieces of a line: words, numbers and remarks.
-use Rattle.std.specs.Prelude.{ℕ, ◌+◌, Bool, true, false, cond, ◌&&◌, List, [], ◌∷◌, map, length, ◌==◌, nat_lt, slice_index}
+use Rattle.std.specs.Prelude.{ℕ, ◌+◌, Bool, cond, ◌&&◌, List, [], ◌∷◌, map, length, ◌==◌, nat_lt, slice_index}
 use Rattle.textparts.specs.declared.bytes.Class.TheVariants.{Space}
 use Rattle.textparts.specs.Bytes.{has}
 use Rattle.textparts.specs.Shapes.{is_number, worth}

@@ -1,13 +1,13 @@
 -- A bound by computing: tests of a floor, and what they say.
-use Rattle.std.proofs.Common.{◌≡◌, ℕ, zero, suc, ◌+◌, ◌-◌, ◌<◌, ◌≤◌, Bool, true, false, not, ◌&&◌, ltb, leb, refl, ⊎_elim, arith, leb-true}
+use Rattle.std.proofs.Common.{◌≡◌, ℕ, zero, suc, ◌+◌, ◌-◌, ◌<◌, Bool, true, false, not, ◌&&◌, ltb, leb, ⊎_elim, arith, leb-true}
 use Rattle.std.proofs.lemmas.Bool.Decides.{nat_tests, leb_tells}
 use Rattle.sets.specs.Below.{some_below}
 use Rattle.sets.proofs.Below.{none-at}
-use Rattle.analysis.specs.Bounds.{IsLeast, IsBound, InTime, split_demand, whole_demand}
+use Rattle.analysis.specs.Bounds.{IsLeast, IsBound, split_demand, whole_demand}
 use Rattle.analysis.specs.Charges.{scrub_cost}
 use Rattle.analysis.specs.Floor.{Floor}
 use Rattle.analysis.specs.Least.{Unbounded}
-use Rattle.analysis.specs.Verdict.{Bounded, Ready, strays, dear}
+use Rattle.analysis.specs.Verdict.{Ready, strays, dear}
 use Rattle.analysis.proofs.Floors.{bound-unique, split-bound, whole-bound}
 use Rattle.worked.specs.Worked.{Comes}
 

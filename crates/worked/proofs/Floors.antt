@@ -1,5 +1,5 @@
 -- The worked floors, each by computing.
-use Rattle.std.proofs.Common.{ℕ, Ok, Err, refl, lit<}
+use Rattle.std.proofs.Common.{Ok, Err, refl, lit<}
 use Rattle.sets.specs.Below.{some_below}
 use Rattle.sets.specs.Member.{member}
 use Rattle.sets.specs.Sets.{names}
@@ -9,7 +9,7 @@ use Rattle.analysis.specs.Charges.{guarded, guard_cost, scrub_cost, resume_below
 use Rattle.analysis.specs.FloorOf.{floor_of, figures_at}
 use Rattle.analysis.specs.Verdict.{Bounded, Ready, Verdict, strays, dear}
 use Rattle.worked.specs.Tables.{line, alone, on_cache}
-use Rattle.worked.specs.Worked.{Comes, SharedWay, OwnWays, Alone, WorkedFloors}
+use Rattle.worked.specs.Worked.{Comes, WorkedFloors}
 use Rattle.worked.proofs.Runs.{run-stands}
 use Rattle.worked.proofs.Computed.{comes, missed, of_none, of_one, of_three, of_two, ready_by, split_by, whole_by}
 

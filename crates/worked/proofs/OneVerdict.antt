@@ -1,10 +1,10 @@
 -- The conditions of any two answers exclude each other.
-use Rattle.std.proofs.Common.{◌≡◌, ℕ, suc, ◌<◌, ◌≤◌, Bool, true, false, Ok, Err, Result, sym, refl, ap, ⊎_elim, arith}
+use Rattle.std.proofs.Common.{◌≡◌, ℕ, suc, ◌<◌, Bool, true, false, Ok, Err, refl, ap, ⊎_elim, arith}
 use Rattle.std.proofs.lemmas.Bool.Decides.{leb_tells}
 use Rattle.analysis.specs.declared.fault.AnalysisFault.{AnalysisFault}
 use Rattle.analysis.specs.declared.fault.AnalysisFault.TheVariants.{NoTask, NoWay, DearWay, ShortList, NoBound}
 use Rattle.analysis.specs.Floor.{Floor}
-use Rattle.analysis.specs.Verdict.{Bounded, FirstUnbounded, IsFirst, NoneBelow, Ready, Refused, Verdict}
+use Rattle.analysis.specs.Verdict.{Bounded, FirstUnbounded, IsFirst, NoneBelow, Ready, Refused}
 use Rattle.worked.specs.OneVerdict.{OneVerdict}
 
 none_first : (n : ℕ) (p : ℕ → Bool) (k : ℕ) → NoneBelow n p → IsFirst n p k → ⊥

@@ -1,5 +1,5 @@
 -- The worked run: each tick by computing, and that a tick can do nothing else.
-use Rattle.std.proofs.Common.{◌≡◌, ℕ, suc, ◌<◌, ◌≤◌, Bool, true, false, cond, ltb, sym, refl, ap, ◌∙◌, subst, ap₂, ⊎_elim, arith}
+use Rattle.std.proofs.Common.{◌≡◌, ℕ, suc, ◌<◌, Bool, true, false, cond, ltb, sym, refl, ap, ◌∙◌, subst, ap₂, ⊎_elim, arith}
 use Rattle.std.proofs.lemmas.Bool.Decides.{leb_tells, nat_tests}
 use Rattle.sets.specs.Below.{some_below}
 use Rattle.sets.specs.Member.{member}
@@ -12,7 +12,7 @@ use Rattle.analysis.specs.Floor.{Floor}
 use Rattle.analysis.specs.FloorOf.{floor_of, figures_at}
 use Rattle.runs.specs.declared.answer.TickAnswer.{TickAnswer}
 use Rattle.runs.specs.declared.answer.TickAnswer.TheVariants.{Rest, Scrub, Run}
-use Rattle.runs.specs.Calls.{Ticked, announcing, closed, rested, scrubbed, served, taken, last_tick}
+use Rattle.runs.specs.Calls.{Ticked, announcing, rested, scrubbed, served, taken, last_tick}
 use Rattle.runs.specs.State.{Agree, State, chosen, fresh, pending, scrub_way, stays, tainted}
 use Rattle.worked.specs.Run.{OneCall, WorkedRun, tick_answer, tick_state}
 

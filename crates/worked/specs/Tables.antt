@@ -1,5 +1,5 @@
 -- The floors that are worked by hand.
-use Rattle.std.specs.Prelude.{ℕ, ◌^◌, Bool, cond, ◌&&◌, ◌||◌, List, [], ◌∷◌, ◌==◌, nat_lt}
+use Rattle.std.specs.Prelude.{ℕ, ◌^◌, Bool, cond, ◌&&◌, ◌||◌, [], ◌∷◌, ◌==◌, nat_lt}
 use Rattle.sets.specs.declared.way_set.WaySet.{WaySet}
 use Rattle.taskset.specs.declared.task.Kind.{Kind}
 use Rattle.taskset.specs.declared.task.Kind.TheVariants.{Split, Whole}

@@ -1,5 +1,4 @@
 use Rattle.std.proofs.Common.{◌≡◌, ℕ, List, vec_items, sym, ap, ◌∙◌, subst, add-one}
-use Rattle.taskset.specs.Table.{count, task_at}
 use Rattle.taskset.specs.View.{table}
 use Rattle.listing.specs.Listing.{with_pairs_to, with_pair_if}
 use Rattle.listing.proofs.list_pairs_to.Goals as goal

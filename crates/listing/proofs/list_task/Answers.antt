@@ -1,9 +1,8 @@
-use Rattle.std.proofs.Common.{◌≡◌, ℕ, List, ◌++◌, Ok, Err, vec_items, codes, decimal, Result, sym, refl, ap, ◌∙◌, arith}
+use Rattle.std.proofs.Common.{◌≡◌, ℕ, List, ◌++◌, Ok, Err, vec_items, codes, decimal, Result, ap, ◌∙◌, arith}
 use Rattle.taskset.specs.declared.fault.DraftFault.{DraftFault}
 use Rattle.taskset.specs.declared.task.Figures.{Figures}
 use Rattle.taskset.specs.declared.task.Task.{Task}
-use Rattle.taskset.specs.Table.{figures_of, name_of, task_at}
-use Rattle.taskset.specs.View.{table}
+use Rattle.taskset.specs.Table.{figures_of, name_of}
 use Rattle.listing.specs.Listing.{with_figures, with_task_at}
 use Rattle.listing.proofs.list_task.Goals as goal
 

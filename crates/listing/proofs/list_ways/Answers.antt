@@ -1,6 +1,4 @@
 use Rattle.std.proofs.Common.{◌≡◌, ℕ, List, vec_items, sym, ap, ◌∙◌, subst, add-one}
-use Rattle.taskset.specs.Table.{count, task_at}
-use Rattle.taskset.specs.View.{table}
 use Rattle.listing.specs.Listing.{with_ways, with_way}
 use Rattle.listing.proofs.list_ways.Goals as goal
 

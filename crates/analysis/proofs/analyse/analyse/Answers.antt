@@ -1,9 +1,9 @@
-use Rattle.std.proofs.Common.{◌≡◌, ℕ, ◌-◌, ◌<◌, ◌≤◌, min, length, ap, subst, arith}
+use Rattle.std.proofs.Common.{ℕ, ◌-◌, ap, subst, arith}
 use Rattle.taskset.specs.View.{table}
 use Rattle.analysis.specs.After.{Written}
 use Rattle.analysis.specs.Floor.{Floor}
 use Rattle.analysis.specs.FloorOf.{floor_of}
-use Rattle.analysis.specs.PlanOf.{plan_bound, plan_floor}
+use Rattle.analysis.specs.PlanOf.{plan_bound}
 use Rattle.analysis.specs.Verdict.{asked_floor, Ready}
 use Rattle.analysis.proofs.Verdicts.{plan-asked}
 use Rattle.analysis.proofs.analyse.analyse.Goals as goal

@@ -1,4 +1,4 @@
-use Rattle.std.proofs.Common.{ℕ, ◌≤◌, arith}
+use Rattle.std.proofs.Common.{arith}
 use Rattle.analysis.proofs.least.least.Goals as goal
 
 pub returns-then-need-from-2 : goal.returns-then-need-from-2

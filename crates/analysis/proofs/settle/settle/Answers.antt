@@ -1,4 +1,4 @@
-use Rattle.std.proofs.Common.{◌≡◌, ◌<◌, ◌≢◌, length, get_or, ◌∙◌, arith, length-set, get_or-set_other, get_or-set_same, below_more}
+use Rattle.std.proofs.Common.{◌<◌, ◌≢◌, length, get_or, ◌∙◌, arith, length-set, get_or-set_other, get_or-set_same, below_more}
 use Rattle.analysis.proofs.settle.settle.Goals as goal
 
 pub bound-requires : goal.bound-requires

@@ -1,4 +1,4 @@
-use Rattle.std.proofs.Common.{◌≡◌, is_ok, Ok, sym, ap, ◌∙◌}
+use Rattle.std.proofs.Common.{is_ok, ap, ◌∙◌}
 use Rattle.dispatch.proofs.Plans.{task-there}
 use Rattle.dispatch.proofs.reading.figures.Goals as goal
 

@@ -1,4 +1,4 @@
-use Rattle.std.proofs.Common.{◌≡◌, false, sym, ap, ◌∙◌}
+use Rattle.std.proofs.Common.{false, ap, ◌∙◌}
 use Rattle.std.specs.Result.{result_unwrap_or}
 use Rattle.dispatch.proofs.Plans.{pair-asked}
 use Rattle.dispatch.proofs.reading.must_not_leak.Goals as goal

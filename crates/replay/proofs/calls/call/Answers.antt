@@ -1,4 +1,4 @@
-use Rattle.std.proofs.Common.{◌≡◌, vec_items, sym, subst}
+use Rattle.std.proofs.Common.{vec_items, sym, subst}
 use Rattle.taskset.specs.View.{table}
 use Rattle.daycalls.specs.declared.call.Call.{Call}
 use Rattle.daycalls.specs.View.{call_of}

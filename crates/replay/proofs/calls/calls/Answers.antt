@@ -1,4 +1,4 @@
-use Rattle.std.proofs.Common.{◌≡◌, ℕ, List, vec_items, sym, refl, ap, ◌∙◌, subst}
+use Rattle.std.proofs.Common.{◌≡◌, List, vec_items, sym, refl, ap, ◌∙◌, subst}
 use Rattle.textparts.specs.Spans.{Span}
 use Rattle.textparts.specs.Tokens.{pieces}
 use Rattle.textparts.specs.View.{to_come}

@@ -1,8 +1,4 @@
-use Rattle.std.proofs.Common.{◌≡◌, vec_items, ap, ◌∙◌}
-use Rattle.taskset.specs.declared.task.Task.{Task}
 use Rattle.textparts.specs.View.{span_of}
-use Rattle.taskset.specs.View.{table}
-use Rattle.replay.specs.Told.{number_of}
 use Rattle.replay.proofs.Going.{finished-goes}
 use Rattle.replay.proofs.calls.finish.Goals as goal
 

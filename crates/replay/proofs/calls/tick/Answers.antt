@@ -1,7 +1,5 @@
-use Rattle.std.proofs.Common.{◌≡◌, ℕ, List, vec_items, ap, ◌∙◌}
-use Rattle.taskset.specs.Table.{Table}
+use Rattle.std.proofs.Common.{vec_items}
 use Rattle.taskset.specs.View.{table}
-use Rattle.daylines.specs.Lines.{with_ticked}
 use Rattle.replay.proofs.Going.{ticked-goes}
 use Rattle.replay.proofs.calls.tick.Goals as goal
 

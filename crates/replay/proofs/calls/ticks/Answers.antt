@@ -1,7 +1,7 @@
-use Rattle.std.proofs.Common.{◌≡◌, ℕ, List, vec_items, sym, subst, add-one, arith}
+use Rattle.std.proofs.Common.{◌≡◌, ℕ, vec_items, sym, subst, add-one, arith}
 use Rattle.taskset.specs.View.{table}
-use Rattle.replay.specs.Asked.{Ask, ticking}
-use Rattle.replay.specs.Told.{Goes, Stands}
+use Rattle.replay.specs.Asked.{ticking}
+use Rattle.replay.specs.Told.{Stands}
 use Rattle.replay.proofs.calls.ticks.Goals as goal
 
 pub loop-turn-init : goal.loop-turn-init

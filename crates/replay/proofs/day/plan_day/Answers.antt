@@ -1,4 +1,4 @@
-use Rattle.std.proofs.Common.{◌≡◌, Ok, Err}
+use Rattle.std.proofs.Common.{Ok, Err}
 use Rattle.replay.proofs.day.plan_day.Goals as goal
 
 pub returns-in_ok-refused-in-Err : goal.returns-in_ok-refused-in-Err

@@ -1,4 +1,4 @@
-use Rattle.std.proofs.Common.{◌≡◌, ℕ, List, [], vec_items, Result, sym, ap, ◌∙◌, subst}
+use Rattle.std.proofs.Common.{ℕ, [], vec_items, Result, sym, ap, subst}
 use Rattle.textparts.specs.View.{to_come}
 use Rattle.taskset.specs.View.{table}
 use Rattle.analysis.specs.PlanOf.{plan_floor}

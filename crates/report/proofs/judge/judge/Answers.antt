@@ -1,4 +1,4 @@
-use Rattle.std.proofs.Common.{◌≡◌, ℕ, min, List, length, replicate, sym, refl, ap, ◌∙◌, subst, ap₂}
+use Rattle.std.proofs.Common.{◌≡◌, ℕ, min, List, length, replicate, ap, ◌∙◌, subst, ap₂}
 use lib.ListN.{length-replicate}
 use Rattle.taskset.specs.View.{table}
 use Rattle.taskset.proofs.Tables.{lawful-table}

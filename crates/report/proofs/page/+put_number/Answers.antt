@@ -1,4 +1,4 @@
-use Rattle.std.proofs.Common.{◌≡◌, ◌+◌, ◌-◌, ◌/◌, ◌%◌, [], ◌∷◌, length, decimal, sym, refl, ap, ◌∙◌, arith}
+use Rattle.std.proofs.Common.{◌+◌, ◌/◌, ◌%◌, [], ◌∷◌, decimal, sym, ap, ◌∙◌, arith}
 use Rattle.report.proofs.Puts.{more, digit-put, length-digit, length-step}
 use Rattle.std.proofs.lemmas.Fmt.{decimal_step}
 use Rattle.report.specs.Page.{put}

@@ -1,4 +1,4 @@
-use Rattle.std.proofs.Common.{◌≡◌, ◌+◌, ◌-◌, length, sym, refl, ap, ◌∙◌, arith}
+use Rattle.std.proofs.Common.{◌≡◌, ◌+◌, ◌-◌, length, refl, arith}
 use Rattle.std.proofs.lemmas.Slice.{put_mid-paste}
 use Rattle.report.specs.Page.{put}
 use Rattle.report.proofs.page.put_bytes.Goals as goal

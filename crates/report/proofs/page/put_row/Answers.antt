@@ -1,5 +1,4 @@
-use Rattle.std.proofs.Common.{◌≡◌, ◌+◌, ◌-◌, ◌≤◌, length, sym, refl, ap, ◌∙◌, arith}
-use Rattle.report.specs.Page.{row}
+use Rattle.std.proofs.Common.{◌≤◌, length, arith}
 use Rattle.report.proofs.Puts.{length-row, row_made}
 use Rattle.report.proofs.page.put_row.Goals as goal
 

@@ -1,4 +1,4 @@
-use Rattle.std.proofs.Common.{◌≡◌, ℕ, ◌+◌, ◌*◌, ◌≤◌, ◌++◌, length, get_or, sym, refl, ap, ◌∙◌, subst, add-one, arith}
+use Rattle.std.proofs.Common.{◌≡◌, ℕ, length, get_or, sym, refl, subst, add-one, arith}
 use Rattle.taskset.specs.Table.{task_at}
 use Rattle.taskset.specs.View.{table}
 use Rattle.report.specs.Page.{put}

@@ -1,4 +1,4 @@
-use Rattle.std.proofs.Common.{◌≡◌, ℕ, ◌+◌, ◌≤◌, List, [], length, sym, refl, ap, ◌∙◌, ap₂, arith}
+use Rattle.std.proofs.Common.{◌≡◌, ℕ, ◌+◌, List, [], length, sym, ap, ◌∙◌, ap₂, arith}
 use Rattle.taskset.specs.Table.{task_at}
 use Rattle.taskset.specs.View.{table}
 use Rattle.report.specs.Page.{put, row}

@@ -1,4 +1,4 @@
-use Rattle.std.proofs.Common.{◌≡◌, ◌+◌, ◌≤◌, true, false, length, sym, ap, ◌∙◌, arith}
+use Rattle.std.proofs.Common.{◌+◌, ◌≤◌, true, false, length, sym, ◌∙◌, arith}
 use Rattle.taskset.specs.View.{table}
 use Rattle.tabletext.proofs.Find.{found-step, find-all, find_none}
 use Rattle.tabletext.proofs.line.find.Goals as goal

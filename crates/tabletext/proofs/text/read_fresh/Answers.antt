@@ -1,4 +1,4 @@
-use Rattle.std.proofs.Common.{◌≡◌, Ok, Err, Result, rules}
+use Rattle.std.proofs.Common.{◌≡◌, Ok, Err, rules}
 use Rattle.refusal.specs.Outcome.{after, answered}
 use Rattle.taskset.specs.Table.{nothing}
 use Rattle.taskset.specs.View.{table}

@@ -1,6 +1,6 @@
-use Rattle.std.proofs.Common.{◌≡◌, ◌+◌, true, false, cond, ◌&&◌, ltb, length, drop, Some, None, sym, refl, ap, ◌∙◌, inl, inr, arith, rules}
+use Rattle.std.proofs.Common.{◌≡◌, ◌+◌, true, false, cond, drop, Some, None, sym, ap, ◌∙◌, inl, inr, arith}
 use Rattle.std.proofs.lemmas.Bool.Decides.{nat_tests}
-use Rattle.sets.specs.Sets.{no_ways, with_way}
+use Rattle.sets.specs.Sets.{no_ways}
 use Rattle.tabletext.specs.Words.{rising, is_ways, ways_onto, ways_of}
 use Rattle.tabletext.proofs.Rising.{rising-yes, rising-no, rising-all, ways-more, ways-all}
 use Rattle.tabletext.proofs.words.ways.Goals as goal

@@ -1,4 +1,4 @@
-use Rattle.std.proofs.Common.{◌≡◌, ℕ, subst, arith}
+use Rattle.std.proofs.Common.{ℕ, subst, arith}
 use Rattle.analysis.specs.After.{Written}
 use Rattle.analysis.specs.FloorOf.{floor_of}
 use Rattle.analysis.specs.PlanOf.{plan_bound}

@@ -1,5 +1,4 @@
 use Rattle.std.proofs.Common.{◌≡◌, ℕ, ◌<◌, Bool, true, false, not, ◌&&◌, eqb, sym, arith, below_more}
-use Rattle.sets.specs.Below.{some_below}
 use Rattle.sets.proofs.Below.{some-false, some-true}
 use Rattle.taskset.specs.View.{table}
 use Rattle.analysis.specs.Charges.{guarded}

@@ -1,4 +1,4 @@
-use Rattle.std.proofs.Common.{◌≡◌, ℕ, ◌<◌, is_ok, sym, ap, ◌∙◌, arith}
+use Rattle.std.proofs.Common.{◌≡◌, ℕ, is_ok, sym, ap, ◌∙◌, arith}
 use Rattle.taskset.specs.View.{table}
 use Rattle.taskset.proofs.Tables.{lawful-table}
 use Rattle.analysis.specs.Charges.{guard_cost, scrub_cost, dearest}

@@ -1,4 +1,4 @@
-use Rattle.std.proofs.Common.{◌≡◌, sym, ap, ◌∙◌}
+use Rattle.std.proofs.Common.{sym, ap, ◌∙◌}
 use Rattle.sets.specs.Sets.{names}
 use Rattle.taskset.specs.declared.task.Figures.{Figures}
 use Rattle.taskset.specs.View.{table}

@@ -1,4 +1,4 @@
-use Rattle.std.proofs.Common.{◌≡◌, ℕ, cond, ap, ◌∙◌, arith}
+use Rattle.std.proofs.Common.{◌≡◌, cond, ap, ◌∙◌, arith}
 use Rattle.analysis.specs.Charges.{blocking, hold_cost, may_block}
 use Rattle.analysis.specs.Sheets.{sheet_floor}
 use Rattle.analysis.specs.Sums.{most_below}

@@ -1,4 +1,4 @@
-use Rattle.std.proofs.Common.{◌≡◌, ℕ, ◌+◌, ap, ◌∙◌, ap₂, add-one, arith}
+use Rattle.std.proofs.Common.{◌≡◌, ℕ, ◌+◌, ap, ◌∙◌, add-one, arith}
 use Rattle.analysis.specs.Charges.{interference, resume_below, resume_cost, scrub_cost}
 use Rattle.analysis.specs.Floor.{Floor}
 use Rattle.analysis.specs.Sheets.{sheet_floor}

@@ -1,4 +1,4 @@
-use Rattle.std.proofs.Common.{◌≡◌, ℕ, Bool, true, false, cond, not, ◌&&◌, ltb, sym, arith}
+use Rattle.std.proofs.Common.{◌≡◌, ℕ, Bool, true, false, cond, not, ◌&&◌, ltb, arith}
 use Rattle.analysis.proofs.sheet.Sheet.resume.Goals as goal
 
 -- task k resumes, and is scrubbed for again

@@ -1,4 +1,4 @@
-use Rattle.std.proofs.Common.{◌≡◌, ℕ, cond, not, ◌&&◌, ltb, ap, ◌∙◌, arith}
+use Rattle.std.proofs.Common.{◌≡◌, cond, not, ◌&&◌, ltb, ap, ◌∙◌, arith}
 use Rattle.analysis.specs.Charges.{scrub_cost, resume_below}
 use Rattle.analysis.specs.Sheets.{sheet_floor}
 use Rattle.analysis.specs.Sums.{most_below}

@@ -1,4 +1,4 @@
-use Rattle.std.proofs.Common.{◌≡◌, arith}
+use Rattle.std.proofs.Common.{arith}
 use Rattle.analysis.specs.Sheets.{sheet_floor}
 use Rattle.analysis.proofs.Demands.{split-told}
 use Rattle.analysis.proofs.sheet.Sheet.split_bound.Goals as goal

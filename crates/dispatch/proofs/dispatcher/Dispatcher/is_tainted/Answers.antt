@@ -1,4 +1,4 @@
-use Rattle.std.proofs.Common.{◌≡◌, Bool, true, false, sym, ap, ◌∙◌, arith, below_more}
+use Rattle.std.proofs.Common.{◌≡◌, true, false, sym, ap, ◌∙◌, arith, below_more}
 use Rattle.sets.specs.Sets.{names}
 use Rattle.dispatch.specs.View.{task_ways}
 use Rattle.dispatch.proofs.Choices.{tainted-unused, tainted-by, tainted-none}

@@ -1,4 +1,4 @@
-use Rattle.std.proofs.Common.{◌≡◌, ℕ, ◌<◌, false, ◌&&◌, get_or}
+use Rattle.std.proofs.Common.{◌≡◌, ℕ, ◌<◌, false, ◌&&◌}
 use Rattle.sets.specs.Sets.{holds}
 use Rattle.dispatch.specs.View.{floor}
 use Rattle.dispatch.proofs.dispatcher.Dispatcher.is_tainted.Given as goal

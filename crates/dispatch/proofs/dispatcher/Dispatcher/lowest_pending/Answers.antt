@@ -1,4 +1,4 @@
-use Rattle.std.proofs.Common.{ℕ, subst, arith}
+use Rattle.std.proofs.Common.{ℕ, subst}
 use Rattle.dispatch.specs.Later.{FirstJob}
 use Rattle.dispatch.proofs.Choices.{pending-first}
 use Rattle.dispatch.proofs.dispatcher.Dispatcher.lowest_pending.Goals as goal

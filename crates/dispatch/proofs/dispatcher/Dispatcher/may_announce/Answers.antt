@@ -1,4 +1,4 @@
-use Rattle.std.proofs.Common.{◌≡◌, ℕ, ◌<◌, ◌≤◌, Err, sym, ap, ◌∙◌, arith, ltb-false, ltb-true}
+use Rattle.std.proofs.Common.{◌<◌, Err, sym, ap, ◌∙◌, arith, ltb-false, ltb-true}
 use Rattle.resource.specs.Seen.{Seen}
 use Rattle.runs.specs.Calls.{Announced}
 use Rattle.runs.specs.declared.fault.CallFault.TheVariants.{Unlisted, TooEarly}

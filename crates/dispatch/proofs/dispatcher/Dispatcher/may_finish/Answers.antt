@@ -1,4 +1,4 @@
-use Rattle.std.proofs.Common.{◌≡◌, ℕ, ◌<◌, Err, sym, ◌∙◌, arith}
+use Rattle.std.proofs.Common.{◌<◌, Err, sym, ◌∙◌, arith}
 use Rattle.resource.specs.Seen.{Seen}
 use Rattle.runs.specs.Calls.{Finished}
 use Rattle.runs.specs.declared.fault.CallFault.TheVariants.{Unlisted, NotRunning}

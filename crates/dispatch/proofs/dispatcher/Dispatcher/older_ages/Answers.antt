@@ -1,4 +1,4 @@
-use Rattle.std.proofs.Common.{◌≡◌, ℕ, ◌+◌, ◌<◌, min, length, get_or, sym, refl, ap, ◌∙◌, ap₂, arith, length-set}
+use Rattle.std.proofs.Common.{◌≡◌, ℕ, ◌+◌, ◌<◌, min, refl, ap, ◌∙◌, ap₂, arith, length-set}
 use Rattle.runs.specs.Calls.{older}
 use Rattle.dispatch.specs.View.{floor, state_of}
 use Rattle.dispatch.proofs.Arrays.{wrote-below, wrote-rest}

@@ -1,4 +1,4 @@
-use Rattle.std.proofs.Common.{◌≡◌, ℕ, ◌<◌, Bool, ◌&&◌, ◌||◌, eqb, length, get_or, sym, refl, ap, ◌∙◌, ap₂, arith, length-set}
+use Rattle.std.proofs.Common.{◌≡◌, ℕ, Bool, ◌&&◌, ◌||◌, eqb, refl, ap, ◌∙◌, ap₂, arith, length-set}
 use Rattle.sets.specs.Sets.{holds, names}
 use Rattle.dispatch.specs.View.{floor, record_at}
 use Rattle.dispatch.proofs.Arrays.{wrote-below, wrote-rest}

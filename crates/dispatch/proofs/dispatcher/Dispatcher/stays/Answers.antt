@@ -1,4 +1,4 @@
-use Rattle.std.proofs.Common.{◌≡◌, true, false, ◌||◌, is_some, sym, ap, ◌∙◌, arith}
+use Rattle.std.proofs.Common.{◌≡◌, true, false, ◌||◌, is_some, sym, ap, ◌∙◌}
 use Rattle.analysis.specs.FloorOf.{is_whole}
 use Rattle.dispatch.specs.View.{floor}
 use Rattle.dispatch.proofs.Choices.{holder-listed, stays-nobody, stays-held}

@@ -1,4 +1,4 @@
-use Rattle.std.proofs.Common.{◌≡◌, ℕ, ◌<◌, ap, ◌∙◌, arith, length-set}
+use Rattle.std.proofs.Common.{◌≡◌, ◌<◌, ap, ◌∙◌, arith, length-set}
 use Rattle.analysis.specs.PlanOf.{plan_floor}
 use Rattle.dispatch.proofs.Arrays.{wrote-below}
 use Rattle.dispatch.proofs.Plans.{plan-few, task-figures}

@@ -1,5 +1,4 @@
-use Rattle.std.proofs.Common.{◌≡◌, sym, ◌∙◌, arith, below_more}
-use Rattle.resource.specs.Answers.{told16}
+use Rattle.std.proofs.Common.{sym, ◌∙◌, arith, below_more}
 use Rattle.analysis.specs.PlanOf.{plan_floor}
 use Rattle.dispatch.specs.Start.{differs}
 use Rattle.dispatch.proofs.Firsts.{first-is, first-none}

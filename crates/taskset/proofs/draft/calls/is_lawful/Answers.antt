@@ -1,4 +1,4 @@
-use Rattle.std.proofs.Common.{arith, rules}
+use Rattle.std.proofs.Common.{arith}
 use Rattle.std.proofs.lemmas.Bool.Decides.{nat_tests}
 use Rattle.taskset.specs.Figures.{lawful}
 use Rattle.taskset.proofs.draft.calls.is_lawful.Goals as goal

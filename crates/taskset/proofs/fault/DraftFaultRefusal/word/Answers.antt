@@ -1,4 +1,4 @@
-use Rattle.std.proofs.Common.{◌≡◌, ℕ, List, sym, ap}
+use Rattle.std.proofs.Common.{◌≡◌, sym, ap}
 use Rattle.taskset.specs.declared.fault.DraftFault.{DraftFault}
 use Rattle.taskset.specs.Faults.{draft_told}
 use Rattle.taskset.proofs.fault.DraftFaultRefusal.word.Goals as goal

@@ -1,4 +1,4 @@
-use Rattle.std.proofs.Common.{◌≡◌, ◌+◌, ◌-◌, cond, ◌∷◌, map, length, take, drop, refl, ap, ◌∙◌}
+use Rattle.std.proofs.Common.{◌+◌, ◌-◌, cond, ◌∷◌, map, length, take, drop, refl, ap, ◌∙◌}
 use Rattle.textparts.specs.Spans.{at, words}
 use Rattle.textparts.specs.Tokens.{remark, told, pieces}
 use Rattle.textparts.specs.View.{unread}

@@ -1,4 +1,4 @@
-use Rattle.std.proofs.Common.{◌≡◌, ◌-◌, ◌&&◌, length, take, drop, sym, ap, ◌∙◌}
+use Rattle.std.proofs.Common.{◌-◌, ◌&&◌, length, take, drop, sym, ap, ◌∙◌}
 use Rattle.textparts.specs.Tokens.{hashed}
 use Rattle.textparts.specs.View.{unread}
 use Rattle.textparts.proofs.Found.{ahead}
