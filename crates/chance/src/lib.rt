@@ -1,7 +1,7 @@
 // Numbers that look random and come from a seed, the same in every run: for test programs.
 #![tactic(auto)]
 
-ghost use Rattle.std.specs.Prelude.{◌≡◌, cond, false, ◌%◌, ◌<◌, ◌≤◌, eqb};
+ghost use Rattle.std.specs.Prelude.{◌≡◌, false, ◌%◌, ◌<◌, ◌≤◌, if◌then◌else◌, ◌==◌};
 ghost use Rattle.chance.specs.Draws.{advanced, shown};
 
 #[derive(Clone, Copy)]
@@ -32,7 +32,7 @@ impl Chance {
     // A number below n; 0 where there is none.
     pub fn below(&mut self, n: u32) -> u32
         ensures later { self.new.state ≡ advanced self.old.state }
-        ensures value { result ≡ cond (eqb n 0) 0 (shown (advanced self.old.state) % n) }
+        ensures value { result ≡ (if n == 0 then 0 else shown (advanced self.old.state) % n) }
         ensures bound { (result ≤ n) × (result < 2147483648) }
     {
         let any = self.draw();
@@ -42,7 +42,7 @@ impl Chance {
     // Once in n times; never where n is 0.
     pub fn once_in(&mut self, n: u32) -> bool
         ensures later { self.new.state ≡ advanced self.old.state }
-        ensures value { result ≡ cond (eqb n 0) false (eqb (shown (advanced self.old.state) % n) 0) }
+        ensures value { result ≡ (if n == 0 then false else shown (advanced self.old.state) % n == 0) }
     {
         let at = self.below(n);
         n > 0 && at == 0

@@ -1,5 +1,5 @@
 // The rules of a tick and of the calls on single numbers and sets.
-ghost use Rattle.std.specs.Prelude.{◌≡◌, ℕ, ◌+◌, ◌-◌, ◌<◌, ◌≤◌, min, not, ◌&&◌, ◌||◌, if◌then◌else◌, Some as Present, None as Absent, ◌==◌, nat_eq, nat_lt};
+ghost use Rattle.std.specs.Prelude.{◌≡◌, ℕ, ◌+◌, ◌-◌, ◌<◌, ◌≤◌, min, not, ◌&&◌, ◌||◌, if◌then◌else◌, Some as Present, None as Absent, ◌==◌, nat_lt};
 ghost use Rattle.sets.specs.Sets.{holds};
 ghost use Rattle.resource.specs.Answers.{is_done};
 ghost use Rattle.dispatch.specs.Optional.{is_task};
@@ -38,7 +38,7 @@ pub fn has_job(left: u32) -> bool
 
 // The task, if it has any budget left.
 pub fn unended(task: u8, left: u32) -> Option<u8>
-    ensures { result ≡ (if nat_eq left 0 then Absent else Present task) }
+    ensures { result ≡ (if left == 0 then Absent else Present task) }
 {
     if left == 0 { None } else { Some(task) }
 }

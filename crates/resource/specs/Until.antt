@@ -19,7 +19,7 @@ pub record Emptied (x : Seen) (way calls : ℕ) (y : Seen) : Type 0 where
   pub needed : calls ≤ x.left way
   pub paid : way < x.ways → calls ≤ x.cost way
   pub bare : (k : ℕ) → y.traces way k ≡ false
-  pub other : (w : ℕ) → (w ≢ way) → Kept x y w
+  pub other : (w : ℕ) → w ≢ way → Kept x y w
 
 -- the calls made and what they come to; the answer is their number, as far as 32 bits hold it
 pub record ScrubbedDone {S : Type 0} (m : Meaning S) (s : S) (way answer : ℕ) (t : S) : Type 0 where

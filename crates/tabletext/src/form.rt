@@ -36,14 +36,14 @@ pub enum Form<'a> {
 // The next piece, where the line has to have one.
 fn need<'a>(reader: &mut Reader<'a>) -> Result<Piece<'a>, LineFault>
     ensures needed { Needed result (left reader.old) (left reader.new) }
-    ensures reader_unchanged { to_come reader.new ≡ to_come reader.old }
+    ensures same_lines { to_come reader.new ≡ to_come reader.old }
 {
     reader.next_piece().ok_or(LineFault::OddLine)
 }
 
 fn task_pieces<'a>(reader: &mut Reader<'a>) -> Result<TaskPieces<'a>, LineFault>
-    ensures result_value { tasked result ≡ task_words (left reader.old) }
-    ensures reader_unchanged { to_come reader.new ≡ to_come reader.old }
+    ensures value { tasked result ≡ task_words (left reader.old) }
+    ensures same_lines { to_come reader.new ≡ to_come reader.old }
 {
     let name = need(reader)?;
     let period = need(reader)?;
@@ -65,8 +65,8 @@ fn task_pieces<'a>(reader: &mut Reader<'a>) -> Result<TaskPieces<'a>, LineFault>
 }
 
 fn pair_pieces<'a>(reader: &mut Reader<'a>) -> Result<PairPieces<'a>, LineFault>
-    ensures result_value { pair_ofs result ≡ pair_words (left reader.old) }
-    ensures reader_unchanged { to_come reader.new ≡ to_come reader.old }
+    ensures value { pair_ofs result ≡ pair_words (left reader.old) }
+    ensures same_lines { to_come reader.new ≡ to_come reader.old }
 {
     let from = need(reader)?;
     let to = need(reader)?;
@@ -78,8 +78,8 @@ fn pair_pieces<'a>(reader: &mut Reader<'a>) -> Result<PairPieces<'a>, LineFault>
 
 // The form of the line that the reader has come to.
 pub fn of_line<'a>(reader: &mut Reader<'a>) -> Result<Form<'a>, LineFault>
-    ensures result_value { formed result ≡ form_in (left reader.old) }
-    ensures reader_unchanged { to_come reader.new ≡ to_come reader.old }
+    ensures value { formed result ≡ form_in (left reader.old) }
+    ensures same_lines { to_come reader.new ≡ to_come reader.old }
 {
     match reader.next_piece() {
         None => Ok(Form::Skipped),

@@ -120,10 +120,10 @@ pub fn read_line<'a>(
     reader: &mut Reader<'a>,
     line: Part<'a>,
 ) -> Result<(), LineFault>
-    requires bytes_bound { line.place + length line.bytes.now < 2 ^ 64 }
-    requires reader_value { left reader.old ≡ pieces line.place line.bytes.now }
-    ensures draft_after { outcome result (table draft.new) ≡ line_read text.now (table draft.old) (span_of line.entry) }
-    ensures reader_unchanged { to_come reader.new ≡ to_come reader.old }
+    requires in_range { line.place + length line.bytes.now < 2 ^ 64 }
+    requires at_line { left reader.old ≡ pieces line.place line.bytes.now }
+    ensures later { outcome result (table draft.new) ≡ line_read text.now (table draft.old) (span_of line.entry) }
+    ensures same_lines { to_come reader.new ≡ to_come reader.old }
 {
     no_stray(line)?;
     match form::of_line(reader)? {

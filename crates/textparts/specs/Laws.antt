@@ -1,5 +1,5 @@
 -- What a part handed out is, in terms of the text alone.
-use Rattle.std.specs.Prelude.{◌≡◌, ℕ, ◌+◌, ◌-◌, ◌<◌, ◌≤◌, Bool, true, not, ◌||◌, List, length, take, drop, ◌==◌, nat_le, slice_index, slice_index_or}
+use Rattle.std.specs.Prelude.{◌≡◌, ℕ, ◌+◌, ◌-◌, ◌<◌, ◌≤◌, Bool, true, not, ◌||◌, List, length, take, drop, ◌==◌, nat_le, slice_index}
 use Rattle.textparts.specs.Bytes.{each}
 use Rattle.textparts.specs.Shapes.{is_number, worth}
 use Rattle.textparts.specs.Spans.{Span}
@@ -44,7 +44,7 @@ WordIn text s = Longest gap text s × (0 < length s.bytes)
 -- a remark of the text: from a `#` that nothing but a space or a line's beginning precedes to the end of its line
 pub record RemarkIn (text : List ℕ) (s : Span) : Type 0 where
   pub stands : Stands text s
-  pub hash : slice_index_or s.bytes 0 0 ≡ 35
+  pub hash : slice_index s.bytes 0 ≡ 35
   pub some : 0 < length s.bytes
   pub apart : each (λ b. not (ends b)) s.bytes ≡ true
   pub left : opens gap text s.place ≡ true

@@ -21,7 +21,7 @@ dirty_block marks way = cond (first_owned marks way) 0 (cond (second_owned marks
 
 -- mark i after a scrub call: 255 over the whole of that block
 abbrev pub scrubbed_mark : List ℕ → ℕ → ℕ → ℕ
-scrubbed_mark old way i = cond (nat_lt way (ways_in old) && (i / 32 == way && i % 32 / 16 == (dirty_block old way))) 255 (slice_index old i)
+scrubbed_mark old way i = cond (nat_lt way (ways_in old) && (i / 32 == way && i % 32 / 16 == dirty_block old way)) 255 (slice_index old i)
 
 -- one scrub call: it is under way where both blocks had an owner, and otherwise done
 pub record Scrubs (old : List ℕ) (way : ℕ) (answer : Progress) (new : List ℕ) : Type 0 where

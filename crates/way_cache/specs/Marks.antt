@@ -1,15 +1,15 @@
 -- What marks show: one mark for each line, 32 lines for each way, in two blocks of 16.
-use Rattle.std.specs.Prelude.{◌≡◌, ℕ, ◌+◌, ◌*◌, ◌/◌, min, Bool, cond, ◌&&◌, ltb, List, length, nat_eq, nat_le, nat_lt, slice_index}
+use Rattle.std.specs.Prelude.{◌≡◌, ℕ, ◌+◌, ◌*◌, ◌/◌, min, Bool, cond, ◌&&◌, List, length, ◌==◌, nat_le, nat_lt, slice_index}
 use Rattle.sets.specs.Below.{some_below}
 use Rattle.resource.specs.Seen.{Seen}
 
 -- one of the n marks from here on is an owner: a task, 0 to 15
 abbrev pub owner_in : List ℕ → ℕ → ℕ → Bool
-owner_in marks from n = some_below n (λ i. ltb (slice_index marks (from + i)) 16)
+owner_in marks from n = some_below n (λ i. nat_lt (slice_index marks (from + i)) 16)
 
 -- task k is among the n marks from here on
 abbrev pub mark_in : List ℕ → ℕ → ℕ → ℕ → Bool
-mark_in marks from n k = some_below n (λ i. nat_eq (slice_index marks (from + i)) k)
+mark_in marks from n k = some_below n (λ i. slice_index marks (from + i) == k)
 
 -- each 32 marks are a way, up to eight
 abbrev pub ways_in : List ℕ → ℕ

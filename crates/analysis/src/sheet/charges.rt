@@ -1,4 +1,4 @@
-ghost use Rattle.std.specs.Prelude.{◌≡◌, ℕ, ◌+◌, ◌<◌, ◌≤◌, not, ◌&&◌, ltb, if◌then◌else◌, nat_lt};
+ghost use Rattle.std.specs.Prelude.{◌≡◌, ℕ, ◌+◌, ◌<◌, ◌≤◌, not, ◌&&◌, if◌then◌else◌, nat_lt};
 ghost use Rattle.analysis.specs.Charges.{scrub_cost, resume_below, interference, hold_cost, may_block, blocking};
 ghost use Rattle.analysis.specs.Rivals.{RivalsOf};
 ghost use Rattle.analysis.specs.Sheets.{sheet_floor};
@@ -18,7 +18,7 @@ impl Sheet {
     // What task k has to be scrubbed for again, where task j preempts it.
     fn resume(&self, j: u8, k: u8) -> u32
         requires { k < (sheet_floor self.now).tasks }
-        ensures value { result ≡ (if ltb j k && not ((sheet_floor self.now).whole k) then scrub_cost (sheet_floor self.now) k else 0) }
+        ensures value { result ≡ (if nat_lt j k && not ((sheet_floor self.now).whole k) then scrub_cost (sheet_floor self.now) k else 0) }
         ensures few { result ≤ 524280 }
     {
         let row = self.row(k);

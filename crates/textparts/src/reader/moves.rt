@@ -1,4 +1,4 @@
-ghost use Rattle.std.specs.Prelude.{◌≡◌, ◌+◌, ◌^◌, ◌<◌, true, false, [], ◌∷◌, length, IfSome, MatchBool, MatchOption};
+ghost use Rattle.std.specs.Prelude.{◌≡◌, ◌+◌, ◌^◌, ◌<◌, true, false, [], ◌∷◌, length, ⊤, IfSome, MatchBool, MatchOption};
 ghost use Rattle.textparts.specs.Laws.{LineIn, PieceIn, RemarkIn};
 ghost use Rattle.textparts.specs.Spans.{lines};
 ghost use Rattle.textparts.specs.Tokens.{remark, told, pieces, hashed};
@@ -35,7 +35,7 @@ impl<'a> Reader<'a> {
     // Has the last line been handed out?
     fn is_done(&self) -> bool
         ensures value { result ≡ done self.now }
-        ensures none { MatchBool result (to_come self.now ≡ []) (Unit {0}) }
+        ensures none { MatchBool result (to_come self.now ≡ []) ⊤ }
     {
         self.next == self.text.len()
     }
