@@ -1,7 +1,8 @@
 -- What a test of all numbers below a limit says.
-use Rattle.std.proofs.Common.{◌≡◌, ℕ, zero, suc, ◌<◌, Bool, true, false, ◌⊎◌, Decides, refl, inl, inr, arith}
+use Rattle.std.proofs.Common.{◌≡◌, ℕ, zero, suc, ◌<◌, Bool, true, false, ◌⊎◌, Decides, refl, inl, inr, arith, sym}
+use Rattle.std.specs.Prelude.{MatchBool}
 use Rattle.std.proofs.lemmas.Bool.Decides.{Decides-below_or}
-use Rattle.sets.specs.Below.{some_below}
+use Rattle.sets.specs.Below.{some_below, SomeBelow, NoneBelow}
 
 -- a test is true or false
 pub bool_tells : (b : Bool) → (b ≡ true) ⊎ (b ≡ false)
@@ -39,3 +40,8 @@ some-ext (suc n) f g h =
     let here : f n ≡ g n = h n (omega arith) in
     let below : some_below n f ≡ some_below n g = some-ext n f g (λ k l. h k (omega arith)) in
     simp (here, below)
+
+-- an answer that goes by cases is that of the test of all
+pub some-cases : (n : ℕ) (f : ℕ → Bool) (b : Bool) → MatchBool b (SomeBelow n f) (NoneBelow n f) → b ≡ some_below n f
+some-cases n f true h = sym (some-true n f h.at h.below h.passes)
+some-cases n f false h = sym (some-false n f h)

@@ -1,13 +1,11 @@
 -- What the operations on a number's bits do to its members.
-use Rattle.std.proofs.Common.{◌≡◌, ℕ, zero, suc, ◌+◌, ◌-◌, ◌*◌, ◌/◌, ◌%◌, ◌^◌, ◌<◌, ◌≤◌, max, true, false, not, ◌&&◌, ◌||◌, eqb, ltb, leb, sym, refl, ap, ◌∙◌, ⊎_elim, mod-eq_of_lt, mul_assoc, pow-suc, zero-mul, div-one, arith, true-eqb, false-eqb}
+use Rattle.std.proofs.Common.{◌≡◌, ℕ, zero, suc, ◌+◌, ◌-◌, ◌*◌, ◌/◌, ◌%◌, ◌^◌, ◌<◌, ◌≤◌, max, min, true, false, ◌&&◌, ◌||◌, eqb, ltb, leb, sym, refl, ap, ◌∙◌, ⊎_elim, mod-eq_of_lt, mul_assoc, pow-suc, zero-mul, div-one, arith, true-eqb, false-eqb}
 use native.Mathlib.Nat.{mul-div-mul_right, div-eq_of_lt, mul-mod_left}
-use lib.Bits.{bit_or, or_step}
+use lib.Bits.{bit_or, bit_and, or_step, and_step}
 use lib.Pow.{pow-lt, mod-mod-pow}
-use Rattle.std.proofs.lemmas.Nat.{or_shr, pow_pos, pow-add, shl-shr, shr-shr, field_of, mod_below, mod-pow-add, pow_below, one_shl}
-use Rattle.std.proofs.lemmas.Bool.Decides.{nat_tests, eqb_tells, leb_tells}
-use Rattle.sets.specs.Below.{some_below}
+use Rattle.std.proofs.lemmas.Nat.{or_shr, and_shr, pow_pos, pow-add, shl-shr, shr-shr, field_of, mod_below, mod-pow-add, pow_below, one_shl}
+use Rattle.std.proofs.lemmas.Bool.Decides.{nat_tests, leb_tells}
 use Rattle.sets.specs.Member.{member}
-use Rattle.sets.proofs.Below.{bool_tells, none-at, some_at}
 
 -- a power of two divides out
 pow-down : (j k : ℕ) → 2 ^ suc j / 2 ^ suc k ≡ 2 ^ j / 2 ^ k
@@ -120,17 +118,18 @@ member-raised b k n w =
     (λ p. let under = member-under b k w p.1 in grind (arith, nat_tests))
     (leb_tells k w)
 
--- only 0 has no member
-pub zero-tells : (n b : ℕ) → b < 2 ^ n → eqb b 0 ≡ not (some_below n (λ w. ltb w n && member b w))
-zero-tells n b l =
-    ⊎_elim
-    (λ e.
-    let h = some_at n (λ w. ltb w n && member b w) e in
-    ⊎_elim
-    (λ p. let z = member-zero h.0 in let q : member b h.0 ≡ member 0 h.0 = ap (λ (v : ℕ). member v h.0) p.1 in grind (arith, nat_tests, h.2))
-    (λ p. grind (arith, p.0, e))
-    (eqb_tells b 0))
-    (λ e.
-    let z : b ≡ 0 = memberless n b l (λ w h. let f = none-at n (λ v. ltb v n && member b v) e w h in grind (arith, nat_tests)) in
-    grind (arith, nat_tests))
-    (bool_tells (some_below n (λ w. ltb w n && member b w)))
+-- a member of either
+pub member-union : (a b k : ℕ) → member (bit_or a b) k ≡ (member a k || member b k)
+unfolding member
+member-union a b k =
+    let low : bit_or (a / 2 ^ k) (b / 2 ^ k) % 2 ≡ max (a / 2 ^ k % 2) (b / 2 ^ k % 2) = omega (arith, or_step (a / 2 ^ k) (b / 2 ^ k)) in
+    let bits : bit_or a b / 2 ^ k % 2 ≡ max (a / 2 ^ k % 2) (b / 2 ^ k % 2) = ap (λ x. x % 2) (or_shr a b k) ∙ low in
+    grind (arith, nat_tests)
+
+-- a member of both
+pub member-both : (a b k : ℕ) → member (bit_and a b) k ≡ (member a k && member b k)
+unfolding member
+member-both a b k =
+    let low : bit_and (a / 2 ^ k) (b / 2 ^ k) % 2 ≡ min (a / 2 ^ k % 2) (b / 2 ^ k % 2) = omega (arith, and_step (a / 2 ^ k) (b / 2 ^ k)) in
+    let bits : bit_and a b / 2 ^ k % 2 ≡ min (a / 2 ^ k % 2) (b / 2 ^ k % 2) = ap (λ x. x % 2) (and_shr a b k) ∙ low in
+    grind (arith, nat_tests)

@@ -1,26 +1,37 @@
--- Who is in a set of ways, and who in a set of tasks.
-use Rattle.std.specs.Prelude.{ℕ, ◌^◌, Bool, cond, not, ◌&&◌, bit_or, nat_lt}
+-- Who is in a set of numbers, and its two uses: sets of ways and sets of tasks.
+use Rattle.std.specs.Prelude.{ℕ, ◌%◌, ◌^◌, Bool, cond, min, not, ◌&&◌, bit_or, nat_lt}
 use Rattle.sets.specs.Below.{some_below}
 use Rattle.sets.specs.Member.{member}
-use Rattle.sets.specs.declared.way_set.WaySet.{WaySet}
-use Rattle.sets.specs.declared.task_set.TaskSet.{TaskSet}
+use Rattle.sets.specs.declared.number_set.NumberSet.{NumberSet}
 
--- the set of ways names way w
-unfoldable pub names : WaySet → ℕ → Bool
-names s w = nat_lt w 8 && member s.bits w
+-- ways 0 to 7
+abbrev pub WaySet : Type 0
+WaySet = NumberSet 8
 
--- the set without a way
-unfoldable pub no_ways : WaySet
-no_ways = record { bits = 0 }
+-- tasks 0 to 15
+abbrev pub TaskSet : Type 0
+TaskSet = NumberSet 16
 
--- the set with one way more; no way past 7 comes in
-unfoldable pub with_way : WaySet → ℕ → WaySet
-with_way s w = cond (nat_lt w 8) (record { bits = bit_or s.bits (2 ^ w) }) s
+-- k can be in a set of numbers below n
+abbrev pub in_range : ℕ → ℕ → Bool
+in_range n k = nat_lt k n && nat_lt k 16
 
--- the set names no way at all
-unfoldable pub nameless : WaySet → Bool
-nameless s = not (some_below 8 (names s))
+-- k is in the set
+unfoldable pub has : {n : ℕ} → NumberSet n → ℕ → Bool
+has {n} s k = in_range n k && member s.bits k
 
--- the set of tasks holds task k
-unfoldable pub holds : TaskSet → ℕ → Bool
-holds s k = nat_lt k 16 && member s.bits k
+-- the set without a member
+unfoldable pub nobody : (n : ℕ) → NumberSet n
+nobody n = record { bits = 0 }
+
+-- the set with one number more; none that is out of range comes in
+unfoldable pub with_member : {n : ℕ} → NumberSet n → ℕ → NumberSet n
+with_member {n} s k = cond (in_range n k) (record { bits = bit_or s.bits (2 ^ k) }) s
+
+-- the set of its members below k
+unfoldable pub members_below : {n : ℕ} → NumberSet n → ℕ → NumberSet n
+members_below s k = record { bits = s.bits % 2 ^ min k 16 }
+
+-- nobody is in the set
+unfoldable pub is_memberless : {n : ℕ} → NumberSet n → Bool
+is_memberless {n} s = not (some_below n (has s))

@@ -1,6 +1,5 @@
-// Sets of ways and sets of tasks, each a small number whose bits say who is in it.
-// Contracts speak of members alone, so no crate above this one sees a bit.
+//! Sets of small numbers, as sets of ways and sets of tasks: the bits of one number say who is in them.
+//! Contracts speak of members alone, so no crate above this one sees a bit.
 #![tactic(auto)]
 
-pub mod task_set;
-pub mod way_set;
+pub mod number_set;
