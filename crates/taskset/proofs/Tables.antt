@@ -1,47 +1,24 @@
--- What a draft's arrays hold, as a table.
-use Rattle.std.proofs.Common.{◌≡◌, ℕ, zero, suc, ◌+◌, ◌<◌, ◌≤◌, Bool, true, false, cond, ◌&&◌, ◌||◌, eqb, ltb, ◌⊎◌, List, [], ◌∷◌, ◌++◌, length, get_or, take, set, replicate, Ok, Err, sym, refl, ap, ◌∙◌, ap₂, inl, inr, ⊎_elim, add-one, arith, length-take-le, take-suc-set}
-use mathlib.Core.Path.{fun_ext}
+-- Tables: their tasks by number, and their pairs.
+use Rattle.std.proofs.Common.{◌≡◌, ℕ, zero, suc, ◌+◌, ◌<◌, ◌≤◌, Bool, true, false, cond, ◌&&◌, ◌||◌, eqb, ◌⊎◌, List, [], ◌∷◌, ◌++◌, length, get_or, take, set, Ok, Err, sym, refl, ap, ◌∙◌, inl, inr, ⊎_elim, arith, length-append, length-set, false-eqb}
+use Rattle.std.proofs.lemmas.List.{get_or-set_same, get_or-set_other}
 use Rattle.std.proofs.lemmas.Bool.Decides.{nat_tests, eqb_tells, leb_tells}
-use Rattle.sets.specs.Sets.{holds}
-use Rattle.sets.specs.declared.task_set.TaskSet.{TaskSet}
-use Rattle.taskset.specs.declared.draft.Draft.{Draft}
 use Rattle.taskset.specs.declared.fault.DraftFault.TheVariants.{Unlisted}
 use Rattle.taskset.specs.declared.task.Task.{Task}
 use Rattle.taskset.specs.Figures.{lawful, all_lawful}
-use Rattle.taskset.specs.Pairs.{pair_at}
-use Rattle.taskset.specs.Table.{Table, Lawful, both_listed, count, task_at}
-use Rattle.taskset.specs.View.{table}
+use Rattle.sets.specs.Sets.{TaskSet, has, in_range, nobody, with_member}
+use Rattle.sets.proofs.Sets.{has-with}
+use Rattle.taskset.specs.Table.{Table, IsLawful, noleak, both_listed, count, task_at, with_task, with_pair}
 
 false-true : false ≡ true → ⊥
 false-true z = let n : ◌≡◌ {A = ℕ} 0 1 = ap (λ b. cond b 1 0) z in omega arith
 
--- the table has as many tasks as the draft says
-pub count-table : (d : Draft) → count (table d) ≡ d.count
-unfolding table
-count-table d = length-take-le d.count d.tasks (omega (arith, d.few, d.task_places))
-
 -- what it means that two numbers are those of tasks
-pub both-listed : (d : Draft) (from to : ℕ) → both_listed (table d) from to ≡ true → (from < d.count) × (to < d.count)
-both-listed d from to h =
-    let e = count-table d in
+pub both-listed : (t : Table) (from to : ℕ) → both_listed t from to ≡ true → (from < count t) × (to < count t)
+both-listed t from to h =
     ⊎_elim
-    (λ p. ⊎_elim (λ q. (omega (arith, p.1), omega (arith, q.1))) (λ q. absurd (false-true (grind (arith, p.0, q.0, h)))) (leb_tells (suc to) (count (table d))))
+    (λ p. ⊎_elim (λ q. (p.1, q.1)) (λ q. absurd (false-true (grind (arith, p.0, q.0, h)))) (leb_tells (suc to) (count t)))
     (λ p. absurd (false-true (grind (arith, p.0, h))))
-    (leb_tells (suc from) (count (table d)))
-
--- every draft's table is lawful
-pub lawful-table : (d : Draft) → Lawful (table d)
-unfolding table
-lawful-table d = record {
-  few = omega (arith, count-table d, d.few);
-  figures = d.in_range;
-  listed = λ k i h. let l = d.pairs_listed k i h in (omega (arith, count-table d, l.0), omega (arith, count-table d, l.1));
-  apart = d.no_self_pair;
-}
-
--- one task more in the first unused place
-pub push-task : (ts : List Task) (n : ℕ) (t : Task) → n < length ts → take (n + 1) (set ts n t) ≡ take n ts ++ t ∷ []
-push-task ts n t h = rw add-one (take-suc-set ts n t h)
+    (leb_tells (suc from) (count t))
 
 pub all_push : (ts : List Task) (t : Task) → all_lawful ts ≡ true → lawful t.figures ≡ true → all_lawful (ts ++ t ∷ []) ≡ true
 all_push [] t h e = ap (λ v. v && true) e
@@ -60,48 +37,64 @@ task-there [] (suc n) i d h k = absurd (omega arith)
 task-there (t ∷ ts) (suc n) zero d h k = refl
 task-there (t ∷ ts) (suc n) (suc i) d h k = task-there ts n i d (omega arith) (omega arith)
 
--- pairs by the set in its place
-pub pair-there : (ss : List TaskSet) (k i : ℕ) (d : TaskSet) → i < length ss → pair_at ss k i ≡ holds (get_or ss i d) k
-pair-there [] k i d h = absurd (omega arith)
-pair-there (s ∷ ss) k zero d h = refl
-pair-there (s ∷ ss) k (suc i) d h = pair-there ss k i d (omega arith)
+nobody-else : (ss : List TaskSet) (i : ℕ) → get_or (ss ++ nobody 16 ∷ []) i (nobody 16) ≡ get_or ss i (nobody 16)
+nobody-else [] zero = refl
+nobody-else [] (suc i) = refl
+nobody-else (s ∷ ss) zero = refl
+nobody-else (s ∷ ss) (suc i) = nobody-else ss i
 
--- sets without a member make no pair
-pub pair-none : (e : TaskSet) → ((k : ℕ) → holds e k ≡ false) → (n k i : ℕ) → pair_at (replicate n e) k i ≡ false
-pair-none e h zero k i = refl
-pair-none e h (suc n) k zero = h k
-pair-none e h (suc n) k (suc i) = pair-none e h n k i
+-- one task more makes no pair
+pub noleak-task : (t : Table) (task : Task) (k i : ℕ) → noleak (with_task t task) k i ≡ noleak t k i
+noleak-task t task k i = ap (λ (s : TaskSet). has s k) (nobody-else t.pairs i)
 
--- a new set in one place
-pub pair_set : (ss : List TaskSet) (s : TaskSet) (j k i : ℕ) → j < length ss → pair_at (set ss j s) k i ≡ cond (eqb i j) (holds s k) (pair_at ss k i)
-pair_set [] s j k i h = absurd (omega arith)
-pair_set (x ∷ ss) s zero k zero h = refl
-pair_set (x ∷ ss) s zero k (suc i) h = let e : eqb (suc i) 0 ≡ false = grind (arith, nat_tests) in ap (λ b. cond b (holds s k) (pair_at ss k i)) (sym e)
-pair_set (x ∷ ss) s (suc j) k zero h = let e : eqb 0 (suc j) ≡ false = grind (arith, nat_tests) in ap (λ b. cond b (holds s k) (holds x k)) (sym e)
-pair_set (x ∷ ss) s (suc j) k (suc i) h = let e : eqb (suc i) (suc j) ≡ eqb i j = grind (arith, nat_tests) in pair_set ss s j k i (omega arith) ∙ ap (λ b. cond b (holds s k) (pair_at ss k i)) (sym e)
+-- and the table stays lawful
+pub lawful-task : (t : Table) (task : Task) → IsLawful t → count t < 16 → lawful task.figures ≡ true → IsLawful (with_task t task)
+lawful-task t task h room l =
+    let tasks : length (t.tasks ++ task ∷ []) ≡ length t.tasks + 1 = length-append t.tasks (task ∷ []) in
+    let pairs : length (t.pairs ++ nobody 16 ∷ []) ≡ length t.pairs + 1 = length-append t.pairs (nobody 16 ∷ []) in
+    let was : (k i : ℕ) → noleak (with_task t task) k i ≡ true → noleak t k i ≡ true = λ k i e. sym (noleak-task t task k i) ∙ e in record {
+      few = omega arith;
+      figures = all_push t.tasks task h.figures l;
+      places = omega (arith, h.places);
+      listed = λ k i e. let b = h.listed k i (was k i e) in (omega (arith, b.0), omega (arith, b.1));
+      apart = λ i e. h.apart i (was i i e);
+    }
 
--- tables with the same tasks and the same pairs
-pub same-table : (t u : Table) → t.tasks ≡ u.tasks → ((k i : ℕ) → t.noleak k i ≡ u.noleak k i) → t ≡ u
-same-table t u e h = ap₂ (λ (ts : List Task) (f : ℕ → ℕ → Bool). record { tasks = ts; noleak = f }) e (fun_ext (λ k. fun_ext (λ i. h k i)))
-
--- one pair more
-pub pair-with : (ss : List TaskSet) (s d : TaskSet) (from to : ℕ) → to < length ss → from < 16 → ((k : ℕ) → holds s k ≡ (holds (get_or ss to d) k || (eqb from k && ltb k 16))) → (k i : ℕ) → pair_at (set ss to s) k i ≡ (pair_at ss k i || (eqb k from && eqb i to))
-pair-with ss s d from to l m h k i =
-    let e = pair_set ss s to k i l in
+-- one pair more, besides those that stand
+pub noleak-pair : (t : Table) (from to : ℕ) → IsLawful t → from < count t → to < count t → (k i : ℕ) → noleak (with_pair t from to) k i ≡ (noleak t k i || (eqb k from && eqb i to))
+noleak-pair t from to h l m k i =
+    let s = get_or t.pairs to (nobody 16) in
+    let r : has (with_member s from) k ≡ (has s k || (eqb from k && in_range 16 k)) = has-with s from k in
+    let place : to < length t.pairs = omega (arith, h.places) in
+    let inside : from < 16 = omega (arith, h.few) in
     ⊎_elim
-    (λ p. let q : pair_at ss k i ≡ holds (get_or ss to d) k = ap (pair_at ss k) p.1 ∙ pair-there ss k to d l in let r = h k in grind (arith, nat_tests, p.0))
-    (λ p. grind (arith, nat_tests, p.0))
+    (λ p.
+    let q : get_or (set t.pairs to (with_member s from)) i (nobody 16) ≡ with_member s from = ap (λ (j : ℕ). get_or (set t.pairs to (with_member s from)) j (nobody 16)) p.1 ∙ get_or-set_same t.pairs to (with_member s from) (nobody 16) place in
+    let u : noleak (with_pair t from to) k i ≡ has (with_member s from) k = ap (λ (x : TaskSet). has x k) q in
+    let v : noleak t k i ≡ has s k = ap (λ (j : ℕ). has (get_or t.pairs j (nobody 16)) k) p.1 in
+    grind (arith, nat_tests, p.0))
+    (λ p.
+    let q : get_or (set t.pairs to (with_member s from)) i (nobody 16) ≡ get_or t.pairs i (nobody 16) = get_or-set_other t.pairs to i (with_member s from) (nobody 16) p.1 in
+    let u : noleak (with_pair t from to) k i ≡ noleak t k i = ap (λ (x : TaskSet). has x k) q in
+    grind (arith, nat_tests, p.0))
     (eqb_tells i to)
 
--- a draft's pairs, once the set of one of its tasks holds another of them too
-pub now-paired : (d : Draft) (from to : ℕ) (s : TaskSet) → from < d.count → to < d.count → ((k : ℕ) → holds s k ≡ (holds (get_or d.pairs to (record { bits = 0 })) k || (eqb from k && ltb k 16))) → (k i : ℕ) → pair_at (set d.pairs to s) k i ≡ (pair_at d.pairs k i || (eqb k from && eqb i to))
-now-paired d from to s l m h = pair-with d.pairs s (record { bits = 0 }) from to (omega (arith, d.few, d.pair_places)) (omega (arith, d.few)) h
-
 -- a pair that stands with one more is that one or stood before
-pub pair-was : (old new : Bool) (k i from to : ℕ) → new ≡ (old || (eqb k from && eqb i to)) → new ≡ true → (old ≡ true) ⊎ ((k ≡ from) × (i ≡ to))
+pair-was : (old new : Bool) (k i from to : ℕ) → new ≡ (old || (eqb k from && eqb i to)) → new ≡ true → (old ≡ true) ⊎ ((k ≡ from) × (i ≡ to))
 pair-was true new k i from to e h = inl refl
 pair-was false new k i from to e h =
     ⊎_elim
     (λ p. ⊎_elim (λ q. inr (p.1, q.1)) (λ q. absurd (false-true (grind (arith, p.0, q.0, e, h)))) (eqb_tells i to))
     (λ p. absurd (false-true (grind (arith, p.0, e, h))))
     (eqb_tells k from)
+
+-- and the table stays lawful, where the two differ
+pub lawful-pair : (t : Table) (from to : ℕ) → IsLawful t → from < count t → to < count t → eqb from to ≡ false → IsLawful (with_pair t from to)
+lawful-pair t from to h l m ne =
+    let was : (k i : ℕ) → noleak (with_pair t from to) k i ≡ true → (noleak t k i ≡ true) ⊎ ((k ≡ from) × (i ≡ to)) = λ k i e. pair-was _ _ k i from to (noleak-pair t from to h l m k i) e in record {
+      few = h.few;
+      figures = h.figures;
+      places = length-set t.pairs to (with_member (get_or t.pairs to (nobody 16)) from) ∙ h.places;
+      listed = λ k i e. ⊎_elim (λ o. h.listed k i o) (λ p. (omega (arith, p.0, l), omega (arith, p.1, m))) (was k i e);
+      apart = λ i e. ⊎_elim (λ o. h.apart i o) (λ p. let same : from ≡ to = sym p.0 ∙ p.1 in false-eqb from to (sym ne) same) (was i i e);
+    }

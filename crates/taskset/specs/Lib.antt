@@ -1,5 +1,6 @@
 pub mod Figures
-pub mod Pairs
 pub mod Table
+pub mod Bytes
+pub mod Places
+pub mod Back
 pub mod Faults
-pub mod View

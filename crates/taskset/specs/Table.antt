@@ -1,5 +1,6 @@
 -- A floor's table: its tasks, and the pairs of them that must not leak.
-use Rattle.std.specs.Prelude.{◌≡◌, ℕ, zero, suc, ◌+◌, ◌<◌, ◌≤◌, Bool, true, false, cond, ◌&&◌, ◌||◌, List, [], ◌∷◌, ◌++◌, length, take, drop, Ok, Err, Result, ◌==◌, ◌≢◌, nat_le, nat_lt}
+use Rattle.std.specs.Prelude.{◌≡◌, ℕ, zero, suc, ◌+◌, ◌<◌, ◌≤◌, Bool, true, cond, ◌&&◌, List, [], ◌∷◌, ◌++◌, length, take, drop, Ok, Err, Result, ◌==◌, ◌≢◌, nat_le, nat_lt, slice_index_or, slice_set}
+use Rattle.sets.specs.Sets.{TaskSet, has, nobody, with_member}
 use Rattle.taskset.specs.declared.fault.DraftFault.{DraftFault}
 use Rattle.taskset.specs.declared.fault.DraftFault.TheVariants.{FullTable, WildFigure, Itself, Unlisted}
 use Rattle.taskset.specs.declared.task.Figures.{Figures}
@@ -7,25 +8,30 @@ use Rattle.taskset.specs.declared.task.Name.{Name}
 use Rattle.taskset.specs.declared.task.Task.{Task}
 use Rattle.taskset.specs.Figures.{lawful, all_lawful}
 
--- the tasks in the order of their numbers; noleak k i says that task i must not run on a trace of task k
+-- the tasks in the order of their numbers, and for each task the set of those of which it must see no trace
 pub record Table : Type 0 where
   pub tasks : List Task
-  pub noleak : ℕ → ℕ → Bool
+  pub pairs : List TaskSet
+
+-- task i must not run on a trace of task k
+abbrev pub noleak : Table → ℕ → ℕ → Bool
+noleak t k i = has (slice_index_or t.pairs i (nobody 16)) k
 
 -- the table without a task
 abbrev pub nothing : Table
-nothing = record { tasks = []; noleak = λ k i. false }
+nothing = record { tasks = []; pairs = [] }
 
 -- how many tasks there are
 abbrev pub count : Table → ℕ
 count t = length t.tasks
 
 -- what holds of every draft's table: at most sixteen tasks, figures in their ranges, and pairs only between two different tasks of it
-pub record Lawful (t : Table) : Type 0 where
+pub record IsLawful (t : Table) : Type 0 where
   pub few : count t ≤ 16
   pub figures : all_lawful t.tasks ≡ true
-  pub listed : (k i : ℕ) → t.noleak k i ≡ true → (k < count t) × (i < count t)
-  pub apart : (i : ℕ) → t.noleak i i ≢ true
+  pub places : length t.pairs ≡ count t
+  pub listed : (k i : ℕ) → noleak t k i ≡ true → (k < count t) × (i < count t)
+  pub apart : (i : ℕ) → noleak t i i ≢ true
 
 -- a task of these figures with the empty name at place 0
 abbrev pub unnamed : Figures → Task
@@ -33,7 +39,7 @@ unnamed f = record { figures = f; name = record { place = 0; len = 0 } }
 
 -- the table with one task more, which takes the next number
 abbrev pub with_task : Table → Task → Table
-with_task t k = record { tasks = t.tasks ++ k ∷ []; noleak = t.noleak }
+with_task t k = record { tasks = t.tasks ++ k ∷ []; pairs = t.pairs ++ nobody 16 ∷ [] }
 
 -- adding a task: refused in a full table, or where a figure is out of its range
 abbrev pub added : Table → Task → Result Table DraftFault
@@ -41,7 +47,7 @@ added t k = cond (nat_lt (count t) 16) (cond (lawful k.figures) (Ok (with_task t
 
 -- the pair noleak from to, besides those that stand
 abbrev pub with_pair : Table → ℕ → ℕ → Table
-with_pair t from to = record { tasks = t.tasks; noleak = λ k i. t.noleak k i || (k == from && i == to) }
+with_pair t from to = record { tasks = t.tasks; pairs = slice_set t.pairs to (with_member (slice_index_or t.pairs to (nobody 16)) from) }
 
 -- both numbers are those of tasks
 abbrev pub both_listed : Table → ℕ → ℕ → Bool
@@ -53,7 +59,7 @@ paired t from to = cond (both_listed t from to) (cond (from == to) (Err Itself) 
 
 -- whether the pair stands
 abbrev pub pair_asked : Table → ℕ → ℕ → Result Bool DraftFault
-pair_asked t from to = cond (both_listed t from to) (Ok (t.noleak from to)) (Err Unlisted)
+pair_asked t from to = cond (both_listed t from to) (Ok (noleak t from to)) (Err Unlisted)
 
 -- the task of a number
 abbrev pub task_at : List Task → ℕ → Result Task DraftFault

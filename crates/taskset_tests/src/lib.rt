@@ -1,13 +1,13 @@
-// What the draft answers, on examples: its ranges at their edges, and each refusal with its number, detail and word.
+//! What the draft answers, on examples: its ranges at their edges, and each refusal with its number, detail and word.
 #![tactic(auto)]
 
 use refusal::Refusal;
-use sets::way_set::WaySet;
+use sets::number_set::WaySet;
 use taskset::draft::Draft;
 use taskset::fault::DraftFault;
 use taskset::task::{Figures, Kind, Name, Task};
 
-// A split task on way 0.
+// A split task on way 0. The dispatcher's tests have the like of their own: a library for one short maker would be no plainer.
 fn figures(period: u32, budget: u32, deadline: u32) -> Figures {
     let ways = WaySet::empty().with(0);
     Figures {
@@ -19,13 +19,9 @@ fn figures(period: u32, budget: u32, deadline: u32) -> Figures {
     }
 }
 
-// The number of the refusal of a task with these figures, or 0 where a draft takes it.
-fn refusal_of(f: Figures) -> u8 {
-    let mut draft = Draft::empty();
-    match draft.add(f) {
-        Ok(_) => 0,
-        Err(e) => e.number(),
-    }
+// The number of the refusal of a task with these figures, or none where a draft takes it.
+fn refusal_of(f: Figures) -> Option<u8> {
+    Draft::empty().add(f).err().map(|e| e.number())
 }
 
 // A draft of n tasks.
@@ -57,14 +53,14 @@ mod tests {
         ];
         for (period, budget, deadline, number) in cases {
             assert_eq!(rt;
-                refusal_of(figures(period, budget, deadline)),
+                refusal_of(figures(period, budget, deadline)).unwrap_or(0),
                 number,
                 "period, budget or deadline"
             );
         }
         let mut no_ways = figures(10, 1, 10);
         no_ways.ways = WaySet::empty();
-        assert_eq!(rt; refusal_of(no_ways), 8, "no ways");
+        assert_eq!(rt; refusal_of(no_ways).unwrap_or(0), 8, "no ways");
     }
 
     #[test]
