@@ -18,6 +18,11 @@ abbrev pub is_end : List Token → Bool
 is_end [] = true
 is_end (t ∷ ts) = false
 
+-- the one piece that there is
+abbrev pub only : List Token → Option Token
+only [] = None
+only (t ∷ ts) = cond (is_end ts) (Some t) None
+
 -- the pieces are one name
 abbrev pub last_name : List Token → Option Span
 last_name [] = None
@@ -37,12 +42,16 @@ abbrev pub or_odd : {A : Type 0} → (A → Call) → Option A → Call
 or_odd call None = odd
 or_odd call (Some a) = call a
 
--- the call of a line's pieces: `announce NAME`, `finish NAME`, `tick` or `tick N`
+-- the call of a line's first word and the pieces after it: `announce NAME`, `finish NAME`, `tick` or `tick N`
+abbrev pub worded : List ℕ → List Token → Call
+worded bs ts =
+    cond (bytes_eq bs (codes "announce")) (or_odd announce (last_name ts))
+    (cond (bytes_eq bs (codes "finish")) (or_odd finish (last_name ts))
+    (cond (bytes_eq bs (codes "tick")) (or_odd ticks (tick_count ts)) odd))
+
+-- the call of a line's pieces
 abbrev pub call_in : List Token → Call
 call_in [] = skipped
 call_in (remark s ∷ ts) = skipped
 call_in (number s v ∷ ts) = odd
-call_in (word s ∷ ts) =
-    cond (bytes_eq s.bytes (codes "announce")) (or_odd announce (last_name ts))
-    (cond (bytes_eq s.bytes (codes "finish")) (or_odd finish (last_name ts))
-    (cond (bytes_eq s.bytes (codes "tick")) (or_odd ticks (tick_count ts)) odd))
+call_in (word s ∷ ts) = worded s.bytes ts

@@ -1,4 +1,4 @@
-// The text of a day: the line that starts it, and then the calls, one a line.
+//! The text of a day: the line that starts it, and then the calls, one a line.
 #![tactic(auto)]
 
 pub mod call;

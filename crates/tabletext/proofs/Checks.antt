@@ -1,7 +1,7 @@
 -- The shapes of a line's words, checked from left to right.
 use Rattle.std.proofs.Common.{◌≡◌, ℕ, ◌<◌, ◌≤◌, true, false, cond, List, [], ◌∷◌, length, Ok, Err, Result, sym, refl, inl, inr, ⊎_elim, arith}
 use Rattle.std.specs.List.{AllByRecursion}
-use Rattle.sets.specs.declared.way_set.WaySet.{WaySet}
+use Rattle.sets.specs.Sets.{WaySet}
 use Rattle.taskset.specs.declared.task.Kind.{Kind}
 use Rattle.taskset.specs.Table.{Table, added, paired}
 use Rattle.textparts.specs.Shapes.{is_name, is_number, worth}

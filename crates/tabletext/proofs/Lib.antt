@@ -1,4 +1,3 @@
-pub mod Rising
 pub mod Find
 pub mod Answer
 pub mod Pieces

@@ -1,5 +1,5 @@
 -- Reading a line reports its first fault, or no fault applies to it and the table is what it says.
-use Rattle.std.proofs.Common.{◌≡◌, ℕ, zero, suc, ◌+◌, ◌<◌, ◌≤◌, Bool, true, false, cond, eqb, ltb, List, [], ◌∷◌, length, get_or, Some, None, Ok, Err, codes, Option, Result, unwrap_or, sym, refl, ap, ◌∙◌, subst, inl, inr, ⊎_elim, arith}
+use Rattle.std.proofs.Common.{◌≡◌, ℕ, ◌+◌, ◌<◌, ◌≤◌, Bool, true, false, cond, eqb, ltb, List, [], ◌∷◌, length, get_or, Some, None, Ok, Err, codes, Option, Result, unwrap_or, sym, refl, ap, ◌∙◌, subst, inl, inr, ⊎_elim, arith}
 use Rattle.std.specs.Option.{ok_or}
 use Rattle.std.specs.List.{prefix_len}
 use Rattle.std.specs.Str.{bytes_eq}
@@ -8,9 +8,8 @@ use Rattle.std.proofs.lemmas.Bool.Decides.{nat_tests}
 use Rattle.std.proofs.str.Laws.{order}
 use Rattle.taskset.specs.declared.fault.DraftFault.{DraftFault}
 use Rattle.taskset.specs.declared.fault.DraftFault.TheVariants.{FullTable, WildFigure, Itself, Unlisted}
-use Rattle.taskset.specs.declared.task.Task.{Task}
 use Rattle.taskset.specs.Figures.{lawful}
-use Rattle.taskset.specs.Table.{Table, count, paired, both_listed, with_task, with_pair, name_in}
+use Rattle.taskset.specs.Table.{Table, count, paired, both_listed, with_task, with_pair}
 use Rattle.textparts.specs.declared.bytes.Class.TheVariants.{Printable}
 use Rattle.textparts.specs.Bytes.{has}
 use Rattle.textparts.specs.Laws.{Stands}
@@ -24,9 +23,9 @@ use Rattle.tabletext.specs.Faulty.{bytes, place, checks, WrongAt, named, figures
 use Rattle.tabletext.specs.Forms.{TaskWords, PairWords, Form, skipped, task, noleak, task_words, pair_words, form, next}
 use Rattle.tabletext.specs.Laws.{is_named}
 use Rattle.tabletext.specs.Lines.{carried, find_from, free, form_read, line_read}
-use Rattle.tabletext.proofs.Answer.{both, true-false, ok-err, err-same}
+use Rattle.tabletext.proofs.Answer.{both, ok-err, err-same}
 use Rattle.tabletext.proofs.Checks.{first_wrong, none-wrong, leftmost-wrong, task-checked, pair-checked, task-rise, pair-rise}
-use Rattle.tabletext.proofs.Names.{Found, find-tells, same_bytes}
+use Rattle.tabletext.proofs.Names.{Found, find-tells, one_name}
 use Rattle.tabletext.proofs.Pieces.{Fine, six_of, two_of, task-fine, pair-fine}
 
 -- what an answer says of the line
@@ -272,15 +271,6 @@ only-itself text t l w s x y (Draft WildFigure) a = absurd a
 only-itself text t l w s x y (Draft Itself) a = (refl, a)
 only-itself text t l w s x y (Draft Unlisted) a = absurd a
 
--- a task has one name
-one_name : (text : List ℕ) (ts : List Task) (k : ℕ) (n m : List ℕ) → is_named text ts k n ≡ true → is_named text ts k m ≡ true → n ≡ m
-one_name text [] k n m e f = true-false (sym e)
-one_name text (t ∷ ts) zero n m e f = sym (same_bytes (name_in text t.name) n e) ∙ same_bytes (name_in text t.name) m f
-one_name text (t ∷ ts) (suc k) n m e f = one_name text ts k n m e f
-
-some_same : {a b : ℕ} → ◌≡◌ {A = Option ℕ} (Some a) (Some b) → a ≡ b
-some_same {a} {b} q = ap (λ o. unwrap_or o a) q
-
 pair-verdict : (text : List ℕ) (t : Table) (l : Span) (w : PairWords) → Fine text (two_of w) → NoStray l →
     (r : Result (Unit {0}) LineFault) → first_wrong (checks (noleak w)) ≡ r →
     (o : Option ℕ) → find_from text 0 t.tasks (bytes w.from) ≡ o → Found text 0 t.tasks (bytes w.from) o →
@@ -313,7 +303,7 @@ pair-verdict text t l w f ns (Ok tt) er (Some k) qo fo (Some i) qv fv =
           (λ g a q. subst (λ h. l.place ≤ det l h) (sym (only g a).0) (omega arith))
       | false ↦ λ e. (
         (λ g a.
-            let same : k ≡ i = some_same (sym qo ∙ ap (find_from text 0 t.tasks) (only g a).1 ∙ qv) in
+            let same : k ≡ i = let one : ◌≡◌ {A = Option ℕ} (Some k) (Some i) = sym qo ∙ ap (find_from text 0 t.tasks) (only g a).1 ∙ qv in cc in
             let yes : eqb k i ≡ true = grind (arith, nat_tests) in
             both (eqb k i) yes e),
         is,

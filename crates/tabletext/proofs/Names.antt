@@ -8,13 +8,11 @@ use Rattle.taskset.specs.Table.{name_in}
 use Rattle.tabletext.specs.Faulty.{named}
 use Rattle.tabletext.specs.Laws.{is_named}
 use Rattle.tabletext.specs.Lines.{find_from}
-use Rattle.tabletext.proofs.Answer.{both, bool_tells, true-false}
+use Rattle.sets.proofs.Below.{bool_tells}
+use Rattle.tabletext.proofs.Answer.{both, true-false}
 
 pub same_bytes : (a b : List ℕ) → bytes_eq a b ≡ true → a ≡ b
 same_bytes a b e = (bytes_eq-Decides a b).0 e
-
-pub bytes_same : (a b : List ℕ) → a ≡ b → bytes_eq a b ≡ true
-bytes_same a b e = (bytes_eq-Decides a b).1 e
 
 -- what the search says
 abbrev pub Found : List ℕ → ℕ → List Task → List ℕ → Option ℕ → Type 0
@@ -49,6 +47,18 @@ pub named-before : (text : List ℕ) (ts us : List Task) (k : ℕ) (n : List ℕ
 named-before text [] us k n e = true-false (sym e)
 named-before text (t ∷ ts) us zero n e = e
 named-before text (t ∷ ts) us (suc k) n e = named-before text ts us k n e
+
+-- a task has one name
+pub one_name : (text : List ℕ) (ts : List Task) (k : ℕ) (n m : List ℕ) → is_named text ts k n ≡ true → is_named text ts k m ≡ true → n ≡ m
+one_name text [] k n m e f = true-false (sym e)
+one_name text (t ∷ ts) zero n m e f = sym (same_bytes (name_in text t.name) n e) ∙ same_bytes (name_in text t.name) m f
+one_name text (t ∷ ts) (suc k) n m e f = one_name text ts k n m e f
+
+-- and is there
+pub named-listed : (text : List ℕ) (ts : List Task) (k : ℕ) (n : List ℕ) → is_named text ts k n ≡ true → k < length ts
+named-listed text [] k n e = true-false (sym e)
+named-listed text (t ∷ ts) zero n e = omega arith
+named-listed text (t ∷ ts) (suc k) n e = let l = named-listed text ts k n e in omega arith
 
 -- no two tasks have one name
 abbrev pub Apart : List ℕ → List Task → Type 0

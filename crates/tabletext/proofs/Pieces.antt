@@ -13,7 +13,7 @@ use Rattle.textparts.proofs.Order.{Rising, words-rise, line-words-stand, remark-
 use Rattle.textparts.proofs.Runs.{each_at}
 use Rattle.tabletext.specs.declared.fault.LineFault.TheVariants.{OddLine, OddWord}
 use Rattle.tabletext.specs.Faulty.{bytes, place, form_of}
-use Rattle.tabletext.specs.Forms.{TaskWords, PairWords, Form, skipped, task, noleak, task_words, pair_words, form, next}
+use Rattle.tabletext.specs.Forms.{TaskWords, PairWords, skipped, task, noleak, task_words, pair_words, form, next}
 use Rattle.tabletext.specs.Words.{name_word, number_word}
 use Rattle.tabletext.proofs.Answer.{err-ok, ok_same, next-ok}
 
@@ -91,48 +91,29 @@ two-words (a ∷ []) w e = err-ok e
 two-words (a ∷ b ∷ []) w e = ap two_of (ok_same e)
 two-words (a ∷ b ∷ c ∷ ts) w e = err-ok e
 
--- which of the forms, as a number
-abbrev sort : Form → ℕ
-sort skipped = 0
-sort (task w) = 1
-sort (noleak w) = 2
-
-abbrev task_of : TaskWords → Form → TaskWords
-task_of d skipped = d
-task_of d (task w) = w
-task_of d (noleak w) = d
-
-abbrev pair_of : PairWords → Form → PairWords
-pair_of d skipped = d
-pair_of d (task w) = d
-pair_of d (noleak w) = w
-
-other-form : {P : Type 0} (a b : Form) → a ≡ b → (sort a ≡ sort b → ⊥) → P
-other-form a b e h = absurd (h (ap sort e))
-
 -- the pieces after the first, where the form is a task line's
 task-form : (ps : List Token) (w : TaskWords) → form ps ≡ Ok (task w) → (h : Token) × (ts : List Token) × (ps ≡ h ∷ ts) × (task_words ts ≡ Ok w)
-task-form [] w e = other-form skipped (task w) (ok_same e) (λ z. omega arith)
-task-form (remark s ∷ ts) w e = other-form skipped (task w) (ok_same e) (λ z. omega arith)
+task-form [] w e = absurd cc
+task-form (remark s ∷ ts) w e = absurd cc
 task-form (number s v ∷ ts) w e = err-ok e
 task-form (word s ∷ ts) w e =
     (elim (bytes_eq s.bytes (codes "task")) as (λ b. cond b (next (task_words ts) (λ w. Ok (task w))) (cond (bytes_eq s.bytes (codes "noleak")) (next (pair_words ts) (λ w. Ok (noleak w))) (Err OddLine)) ≡ Ok (task w) → (h : Token) × (us : List Token) × (word s ∷ ts ≡ h ∷ us) × (task_words us ≡ Ok w)) [
-      | true ↦ λ q. let x = next-ok (task_words ts) (λ w. Ok (task w)) (task w) q in (word s, ts, refl, x.1 ∙ ap (λ f. Ok (task_of w f)) (ok_same x.2))
+      | true ↦ λ q. let x = next-ok (task_words ts) (λ w. Ok (task w)) (task w) q in (word s, ts, refl, cc)
       | false ↦ elim (bytes_eq s.bytes (codes "noleak")) as (λ b. cond b (next (pair_words ts) (λ w. Ok (noleak w))) (Err OddLine) ≡ Ok (task w) → (h : Token) × (us : List Token) × (word s ∷ ts ≡ h ∷ us) × (task_words us ≡ Ok w)) [
-        | true ↦ λ q. let x = next-ok (pair_words ts) (λ w. Ok (noleak w)) (task w) q in other-form (noleak x.0) (task w) (ok_same x.2) (λ z. omega arith)
+        | true ↦ λ q. let x = next-ok (pair_words ts) (λ w. Ok (noleak w)) (task w) q in absurd cc
         | false ↦ λ q. err-ok q
       ]
     ]) e
 
 pair-form : (ps : List Token) (w : PairWords) → form ps ≡ Ok (noleak w) → (h : Token) × (ts : List Token) × (ps ≡ h ∷ ts) × (pair_words ts ≡ Ok w)
-pair-form [] w e = other-form skipped (noleak w) (ok_same e) (λ z. omega arith)
-pair-form (remark s ∷ ts) w e = other-form skipped (noleak w) (ok_same e) (λ z. omega arith)
+pair-form [] w e = absurd cc
+pair-form (remark s ∷ ts) w e = absurd cc
 pair-form (number s v ∷ ts) w e = err-ok e
 pair-form (word s ∷ ts) w e =
     (elim (bytes_eq s.bytes (codes "task")) as (λ b. cond b (next (task_words ts) (λ w. Ok (task w))) (cond (bytes_eq s.bytes (codes "noleak")) (next (pair_words ts) (λ w. Ok (noleak w))) (Err OddLine)) ≡ Ok (noleak w) → (h : Token) × (us : List Token) × (word s ∷ ts ≡ h ∷ us) × (pair_words us ≡ Ok w)) [
-      | true ↦ λ q. let x = next-ok (task_words ts) (λ w. Ok (task w)) (noleak w) q in other-form (task x.0) (noleak w) (ok_same x.2) (λ z. omega arith)
+      | true ↦ λ q. let x = next-ok (task_words ts) (λ w. Ok (task w)) (noleak w) q in absurd cc
       | false ↦ elim (bytes_eq s.bytes (codes "noleak")) as (λ b. cond b (next (pair_words ts) (λ w. Ok (noleak w))) (Err OddLine) ≡ Ok (noleak w) → (h : Token) × (us : List Token) × (word s ∷ ts ≡ h ∷ us) × (pair_words us ≡ Ok w)) [
-        | true ↦ λ q. let x = next-ok (pair_words ts) (λ w. Ok (noleak w)) (noleak w) q in (word s, ts, refl, x.1 ∙ ap (λ f. Ok (pair_of w f)) (ok_same x.2))
+        | true ↦ λ q. let x = next-ok (pair_words ts) (λ w. Ok (noleak w)) (noleak w) q in (word s, ts, refl, cc)
         | false ↦ λ q. err-ok q
       ]
     ]) e
@@ -143,7 +124,7 @@ task-fine text l w h e =
     let x = task-form (pieces l.place l.bytes) w e in
     ⊎_elim
     (λ f. subst (Fine text) (six-words x.1 w x.3) (fine-tail text x.0 x.1 (subst (Fine text) x.2 f)))
-    (λ s. other-form skipped (task w) (ok_same (sym s ∙ e)) (λ z. omega arith))
+    (λ s. absurd cc)
     (fine-line text l h)
 
 -- and of a noleak line
@@ -152,5 +133,5 @@ pair-fine text l w h e =
     let x = pair-form (pieces l.place l.bytes) w e in
     ⊎_elim
     (λ f. subst (Fine text) (two-words x.1 w x.3) (fine-tail text x.0 x.1 (subst (Fine text) x.2 f)))
-    (λ s. other-form skipped (noleak w) (ok_same (sym s ∙ e)) (λ z. omega arith))
+    (λ s. absurd cc)
     (fine-line text l h)

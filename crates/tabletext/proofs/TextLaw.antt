@@ -1,12 +1,19 @@
 -- Reading a text reports its first fault, or leaves what its lines say.
-use Rattle.std.proofs.Common.{◌≡◌, ℕ, ◌+◌, ◌≤◌, Bool, true, false, cond, ◌&&◌, ◌||◌, eqb, leb, List, [], ◌∷◌, ◌++◌, map, length, take, drop, Some, None, Ok, Err, Option, Result, unwrap_or, sym, refl, ap, ◌∙◌, subst, inl, inr, ⊎_elim, append_assoc, append-nil, arith}
+use Rattle.std.proofs.Common.{◌≡◌, ℕ, ◌+◌, ◌<◌, ◌≤◌, Bool, true, false, cond, ◌&&◌, ◌||◌, eqb, leb, List, [], ◌∷◌, ◌++◌, map, length, take, drop, Some, None, Ok, Err, Option, Result, unwrap_or, sym, refl, ap, ◌∙◌, subst, inl, inr, ⊎_elim, append_assoc, append-nil, arith}
 use Rattle.std.specs.List.{flat_map, AllByRecursion}
 use Rattle.std.proofs.ByRecursion.{All-append}
 use Rattle.std.proofs.lemmas.List.{map-append}
-use Rattle.std.proofs.lemmas.Bool.Decides.{nat_tests}
+use Rattle.std.proofs.lemmas.Bool.Decides.{nat_tests, eqb_tells}
+use Rattle.std.proofs.str.Laws.{order}
 use Rattle.refusal.specs.Outcome.{after, answered}
 use Rattle.taskset.specs.declared.task.Task.{Task}
-use Rattle.taskset.specs.Table.{Table, nothing, name_in}
+use Rattle.sets.specs.Sets.{has, in_range, nobody}
+use Rattle.sets.proofs.Members.{member-zero}
+use Rattle.taskset.specs.declared.fault.DraftFault.TheVariants.{FullTable, WildFigure, Itself}
+use Rattle.taskset.specs.Figures.{lawful}
+use Rattle.taskset.specs.Table as T
+use Rattle.taskset.specs.Table.{Table, IsLawful, nothing, count, name_in}
+use Rattle.taskset.proofs.Tables.{noleak-task, noleak-pair, lawful-task, lawful-pair}
 use Rattle.textparts.specs.Laws.{Stands}
 use Rattle.textparts.specs.Shapes.{is_name}
 use Rattle.textparts.specs.Spans.{Span, lines}
@@ -14,17 +21,18 @@ use Rattle.textparts.specs.Tokens.{span}
 use Rattle.textparts.proofs.Order.{text-lines-stand}
 use Rattle.tabletext.specs.declared.fault.FaultAt.{FaultAt}
 use Rattle.tabletext.specs.declared.fault.LineFault.{LineFault}
-use Rattle.tabletext.specs.declared.fault.LineFault.TheVariants.{OddWord, TwiceNamed, Unnamed}
+use Rattle.tabletext.specs.declared.fault.LineFault.TheVariants.{OddWord, TwiceNamed, Unnamed, Draft}
 use Rattle.tabletext.specs.declared.fault.TextFault.{TextFault}
 use Rattle.tabletext.specs.declared.fault.TextFault.TheVariants.{LongText, Line}
-use Rattle.tabletext.specs.Faulty.{bytes, place, named, task_said, form_of, FirstOf, NoneOf, number_of, said_by, said}
-use Rattle.tabletext.specs.Forms.{TaskWords, Form, skipped, task, noleak}
+use Rattle.tabletext.specs.Faulty.{bytes, place, named, figures_said, task_said, form_of, FirstOf, NoneOf, number_of, said_by, said}
+use Rattle.tabletext.specs.Forms.{TaskWords, PairWords, Form, skipped, task, noleak}
 use Rattle.tabletext.specs.Laws.{all_said, Faultless, task_in, name_of_line, is_named, says_pair, some_line, WellNamed, ReadWell, ReadLaws}
 use Rattle.tabletext.specs.Lines.{find_from, line_read}
 use Rattle.tabletext.specs.Read.{onward, read_lines, read_text}
-use Rattle.tabletext.proofs.Answer.{both, bool_tells}
+use Rattle.sets.proofs.Below.{bool_tells}
+use Rattle.tabletext.proofs.Answer.{both}
 use Rattle.tabletext.proofs.LineLaw.{Verdict, line-verdict}
-use Rattle.tabletext.proofs.Names.{Found, find-tells, Apart, apart-push, named-before, only_one}
+use Rattle.tabletext.proofs.Names.{Found, find-tells, one_name, named-listed, Apart, apart-push, named-before, only_one}
 use Rattle.tabletext.proofs.Pieces.{task-fine}
 
 -- the first fault of some lines, after a table
@@ -141,34 +149,82 @@ or-false : (x : Bool) → x ≡ (x || false)
 or-false true = refl
 or-false false = refl
 
+and-false : (x : Bool) → (x && false) ≡ false
+and-false true = refl
+and-false false = refl
+
 -- the number of a task that is named
 number-named : (text : List ℕ) (t : Table) (n : List ℕ) → named text t.tasks n ≡ true → (o : Option ℕ) → Found text 0 t.tasks n o → is_named text t.tasks (unwrap_or o 0) n ≡ true
 number-named text t n e None f = both _ e f
 number-named text t n e (Some a) f = let q : a ≡ f.1.0 = omega (arith, f.1.1) in ap (λ j. is_named text t.tasks j n) q ∙ f.1.3
 
-line-pairs : (text : List ℕ) (t : Table) (l : Span) (f : Result Form LineFault) (ms : List Task) (k i : ℕ) → NoneOf text t l f → Apart text (t.tasks ++ ms) → (said_by text t f).noleak k i ≡ (t.noleak k i || says_pair text (t.tasks ++ ms) k i f)
-line-pairs text t l (Ok skipped) ms k i n a = or-false (t.noleak k i)
-line-pairs text t l (Ok (task w)) ms k i n a = or-false (t.noleak k i)
-line-pairs text t l (Ok (noleak w)) ms k i n a =
-    let ts = t.tasks ++ ms in
+-- FROM and TO of a faultless noleak line are the names of tasks
+pair-named : (text : List ℕ) (t : Table) (l : Span) (w : PairWords) → NoneOf text t l (Ok (noleak w)) →
+    (is_named text t.tasks (number_of text t (bytes w.from)) (bytes w.from) ≡ true) × (is_named text t.tasks (number_of text t (bytes w.to)) (bytes w.to) ≡ true)
+pair-named text t l w n =
     let from = bytes w.from in
     let to = bytes w.to in
     let x : named text t.tasks from ≡ true = ⊎_elim (λ y. y) (λ y. absurd (n (Unnamed (place w.from)) (inl (refl, y)))) (bool_tells (named text t.tasks from)) in
     let z : named text t.tasks to ≡ true = ⊎_elim (λ y. y) (λ y. absurd (n (Unnamed (place w.to)) (inr (refl, y)))) (bool_tells (named text t.tasks to)) in
-    let fx = named-before text t.tasks ms _ from (number-named text t from x (find_from text 0 t.tasks from) (find-tells text 0 t.tasks from)) in
-    let fz = named-before text t.tasks ms _ to (number-named text t to z (find_from text 0 t.tasks to) (find-tells text 0 t.tasks to)) in
-    ap (λ b. t.noleak k i || (b && eqb i (number_of text t to))) (only_one text ts from (number_of text t from) k a fx) ∙ ap (λ b. t.noleak k i || (is_named text ts k from && b)) (only_one text ts to (number_of text t to) i a fz)
-line-pairs text t l (Err x) ms k i n a = or-false (t.noleak k i)
+    (number-named text t from x (find_from text 0 t.tasks from) (find-tells text 0 t.tasks from), number-named text t to z (find_from text 0 t.tasks to) (find-tells text 0 t.tasks to))
 
-all-pairs : (text : List ℕ) (t : Table) (ls : List Span) (us : List Task) (k i : ℕ) → Faultless text t ls → us ≡ t.tasks ++ tasks_in ls → Apart text us → (all_said text t ls).noleak k i ≡ (t.noleak k i || some_line (λ l. says_pair text us k i (form_of l)) ls)
-all-pairs text t [] us k i f e a = or-false (t.noleak k i)
-all-pairs text t (l ∷ ls) us k i f e a =
-    let here = line-pairs text t l (form_of l) (tasks_in (l ∷ ls)) k i f.0 (subst (Apart text) e a) in
+-- a faultless line leaves the table lawful
+line-lawful : (text : List ℕ) (t : Table) (l : Span) (f : Result Form LineFault) → IsLawful t → NoneOf text t l f → IsLawful (said_by text t f)
+line-lawful text t l (Ok skipped) h n = h
+line-lawful text t l (Ok (task w)) h n =
+    let room : count t < 16 = ⊎_elim (λ lt. lt) (λ ge. absurd (n (Draft FullTable) ge)) (order (count t) 16) in
+    let ok : lawful (figures_said w) ≡ true = ⊎_elim (λ y. y) (λ y. absurd (n (Draft WildFigure) y)) (bool_tells (lawful (figures_said w))) in
+    lawful-task t (task_said w) h room ok
+line-lawful text t l (Ok (noleak w)) h n =
+    let ts = t.tasks in
+    let from = number_of text t (bytes w.from) in
+    let to = number_of text t (bytes w.to) in
+    let p = pair-named text t l w n in
+    let two : eqb from to ≡ false = ⊎_elim
+    (λ e. absurd (n (Draft Itself) (one_name text ts from (bytes w.from) (bytes w.to) p.0 (ap (λ j. is_named text ts j (bytes w.to)) e.1 ∙ p.1))))
+    (λ e. e.0)
+    (eqb_tells from to) in
+    lawful-pair t from to h (named-listed text ts from (bytes w.from) p.0) (named-listed text ts to (bytes w.to) p.1) two
+line-lawful text t l (Err x) h n = h
+
+line-pairs : (text : List ℕ) (t : Table) (l : Span) (f : Result Form LineFault) (ms : List Task) (k i : ℕ) → IsLawful t → NoneOf text t l f → Apart text (t.tasks ++ ms) → T.noleak (said_by text t f) k i ≡ (T.noleak t k i || says_pair text (t.tasks ++ ms) k i f)
+line-pairs text t l (Ok skipped) ms k i h n a = or-false (T.noleak t k i)
+line-pairs text t l (Ok (task w)) ms k i h n a = noleak-task t (task_said w) k i ∙ or-false (T.noleak t k i)
+line-pairs text t l (Ok (noleak w)) ms k i h n a =
+    let ts = t.tasks ++ ms in
+    let from = number_of text t (bytes w.from) in
+    let to = number_of text t (bytes w.to) in
+    let p = pair-named text t l w n in
+    let x = named-before text t.tasks ms from (bytes w.from) p.0 in
+    let z = named-before text t.tasks ms to (bytes w.to) p.1 in
+    noleak-pair t from to h (named-listed text t.tasks from (bytes w.from) p.0) (named-listed text t.tasks to (bytes w.to) p.1) k i
+    ∙ ap (λ b. T.noleak t k i || (b && eqb i to)) (only_one text ts (bytes w.from) from k a x)
+    ∙ ap (λ b. T.noleak t k i || (is_named text ts k (bytes w.from) && b)) (only_one text ts (bytes w.to) to i a z)
+line-pairs text t l (Err x) ms k i h n a = or-false (T.noleak t k i)
+
+all-pairs : (text : List ℕ) (t : Table) (ls : List Span) (us : List Task) (k i : ℕ) → IsLawful t → Faultless text t ls → us ≡ t.tasks ++ tasks_in ls → Apart text us → T.noleak (all_said text t ls) k i ≡ (T.noleak t k i || some_line (λ l. says_pair text us k i (form_of l)) ls)
+all-pairs text t [] us k i h f e a = or-false (T.noleak t k i)
+all-pairs text t (l ∷ ls) us k i h f e a =
+    let here = line-pairs text t l (form_of l) (tasks_in (l ∷ ls)) k i h f.0 (subst (Apart text) e a) in
     let on : us ≡ (said text t l).tasks ++ tasks_in ls = e ∙ sym (append_assoc t.tasks (task_in (form_of l)) (tasks_in ls)) ∙ ap (λ ts. ts ++ tasks_in ls) (sym (said-tasks text t (form_of l))) in
-    let rest = all-pairs text (said text t l) ls us k i f.1 on a in
+    let rest = all-pairs text (said text t l) ls us k i (line-lawful text t l (form_of l) h f.0) f.1 on a in
     rest
-    ∙ ap (λ b. b || some_line (λ m. says_pair text us k i (form_of m)) ls) (here ∙ ap (λ ts. t.noleak k i || says_pair text ts k i (form_of l)) (sym e))
-    ∙ or-more (t.noleak k i) (says_pair text us k i (form_of l)) (some_line (λ m. says_pair text us k i (form_of m)) ls)
+    ∙ ap (λ b. b || some_line (λ m. says_pair text us k i (form_of m)) ls) (here ∙ ap (λ ts. T.noleak t k i || says_pair text ts k i (form_of l)) (sym e))
+    ∙ or-more (T.noleak t k i) (says_pair text us k i (form_of l)) (some_line (λ m. says_pair text us k i (form_of m)) ls)
+
+-- no pair stands in the empty table
+none-nothing : (k i : ℕ) → T.noleak nothing k i ≡ false
+unfolding has nobody
+none-nothing k i = ap (λ b. in_range 16 k && b) (member-zero k) ∙ and-false (in_range 16 k)
+
+lawful-nothing : IsLawful nothing
+lawful-nothing = record {
+  few = omega arith;
+  figures = refl;
+  places = refl;
+  listed = λ k i e. both _ e (none-nothing k i);
+  apart = λ i e. both _ e (none-nothing i i);
+}
 
 -- the whole text --------------------------------------------------------------------------------------------------------------
 
@@ -186,7 +242,7 @@ read-well text u short f e =
       names = ap (map (λ t. name_in text t.name)) tasks ∙ all-names text ls stand;
       named = subst (AllByRecursion (WellNamed text)) (sym tasks) (all-well text nothing ls stand f);
       apart = apart;
-      pairs = λ k i. all-pairs text nothing ls v.tasks k i f tasks apart;
+      pairs = λ k i. all-pairs text nothing ls v.tasks k i lawful-nothing f tasks apart ∙ ap (λ b. b || some_line (λ l. says_pair text v.tasks k i (form_of l)) ls) (none-nothing k i);
     })
 
 lines-laws : (text : List ℕ) (r : Result Table TextFault) → length text ≤ 8192 → LinesVerdict text nothing (lines 0 text) r → ReadLaws text (answered tt r) (after nothing r)
@@ -201,6 +257,3 @@ text-laws text =
       | true ↦ λ e. let short : length text ≤ 8192 = grind (arith, nat_tests) in lines-laws text (read_lines text nothing (lines 0 text)) short (lines-verdict text nothing (lines 0 text) (text-lines-stand text))
       | false ↦ λ e. (grind (arith, nat_tests), refl)
     ]) refl
-
-pub laws_at : (text : List ℕ) (r : Result (Unit {0}) TextFault) (u : Table) → r ≡ answered tt (read_text text) → u ≡ after nothing (read_text text) → ReadLaws text r u
-laws_at text r u e h = subst (λ x. ReadLaws text x u) (sym e) (subst (ReadLaws text (answered tt (read_text text))) (sym h) (text-laws text))

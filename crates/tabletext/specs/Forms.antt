@@ -1,5 +1,5 @@
 -- The forms of a line.
-use Rattle.std.specs.Prelude.{cond, List, [], ◌∷◌, Ok, Err, codes, Result}
+use Rattle.std.specs.Prelude.{ℕ, cond, List, [], ◌∷◌, Ok, Err, codes, Result}
 use Rattle.std.specs.Str.{bytes_eq}
 use Rattle.textparts.specs.Tokens.{Token, word, number, remark}
 use Rattle.tabletext.specs.declared.fault.LineFault.{LineFault}
@@ -48,9 +48,18 @@ abbrev pub next : {A B E : Type 0} → Result A E → (A → Result B E) → Res
 next (Ok a) k = k a
 next (Err e) k = Err e
 
+-- no word follows
+abbrev pub ended : List Token → Result (Unit {0}) LineFault
+ended [] = Ok tt
+ended (t ∷ ts) = Err OddLine
+
+-- the form of a line by the bytes of its first word, and the pieces after it
+abbrev pub worded : List ℕ → List Token → Result Form LineFault
+worded bs ts = cond (bytes_eq bs (codes "task")) (next (task_words ts) (λ w. Ok (task w))) (cond (bytes_eq bs (codes "noleak")) (next (pair_words ts) (λ w. Ok (noleak w))) (Err OddLine))
+
 -- the form of a line's pieces: no piece at all or a remark is skipped, and any but a task line and a noleak line is odd
 abbrev pub form : List Token → Result Form LineFault
 form [] = Ok skipped
 form (remark s ∷ ts) = Ok skipped
 form (number s v ∷ ts) = Err OddLine
-form (word s ∷ ts) = cond (bytes_eq s.bytes (codes "task")) (next (task_words ts) (λ w. Ok (task w))) (cond (bytes_eq s.bytes (codes "noleak")) (next (pair_words ts) (λ w. Ok (noleak w))) (Err OddLine))
+form (word s ∷ ts) = worded s.bytes ts

@@ -3,6 +3,7 @@ use Rattle.std.specs.Prelude.{◌≡◌, ℕ, zero, suc, ◌+◌, ◌<◌, ◌�
 use Rattle.std.specs.List.{flat_map, AllByRecursion}
 use Rattle.std.specs.Str.{bytes_eq}
 use Rattle.taskset.specs.declared.task.Task.{Task}
+use Rattle.taskset.specs.Table as T
 use Rattle.taskset.specs.Table.{Table, nothing, name_in}
 use Rattle.textparts.specs.Shapes.{is_name}
 use Rattle.textparts.specs.Spans.{Span, lines}
@@ -84,7 +85,7 @@ pub record ReadWell (text : List ℕ) (u : Table) : Type 0 where
   -- no two tasks have one name
   pub apart : (k i : ℕ) (n : List ℕ) → is_named text u.tasks k n ≡ true → is_named text u.tasks i n ≡ true → k ≡ i
   -- a pair exactly where some noleak line says so by their names
-  pub pairs : (k i : ℕ) → u.noleak k i ≡ some_line (λ l. says_pair text u.tasks k i (form_of l)) (lines 0 text)
+  pub pairs : (k i : ℕ) → T.noleak u k i ≡ some_line (λ l. says_pair text u.tasks k i (form_of l)) (lines 0 text)
 
 -- what holds of a text, of the answer to reading it and of the table that this leaves
 abbrev pub ReadLaws : List ℕ → Result (Unit {0}) TextFault → Table → Type 0

@@ -9,7 +9,7 @@ use Rattle.taskset.specs.Table.{Table, added, paired, name_in}
 use Rattle.textparts.specs.declared.bytes.Class.TheVariants.{Printable}
 use Rattle.textparts.specs.Bytes.{has}
 use Rattle.textparts.specs.Spans.{Span}
-use Rattle.textparts.specs.Tokens.{pieces}
+use Rattle.textparts.specs.Tokens.{Token, pieces}
 use Rattle.tabletext.specs.declared.fault.LineFault.{LineFault}
 use Rattle.tabletext.specs.declared.fault.LineFault.TheVariants.{StrayByte, TwiceNamed, Unnamed, Draft}
 use Rattle.tabletext.specs.Forms.{TaskWords, PairWords, Form, skipped, task, noleak, form, next}
@@ -74,6 +74,10 @@ form_read text t skipped = Ok t
 form_read text t (task w) = task_line text t w
 form_read text t (noleak w) = pair_line text t w
 
--- a line: stray bytes first, also where it is skipped
+-- a line of which these pieces are left: stray bytes first, also where it is skipped
+abbrev pub rest_read : List ℕ → Table → Span → List Token → Result Table LineFault
+rest_read text t l ts = next (unstray l) (λ _. next (form ts) (form_read text t))
+
+-- a whole line
 abbrev pub line_read : List ℕ → Table → Span → Result Table LineFault
-line_read text t l = next (unstray l) (λ _. next (form (pieces l.place l.bytes)) (form_read text t))
+line_read text t l = rest_read text t l (pieces l.place l.bytes)

@@ -1,8 +1,7 @@
 -- What each word of a line has to be.
 use Rattle.std.specs.Prelude.{ℕ, ◌+◌, ◌-◌, Bool, true, cond, ◌&&◌, ◌||◌, List, [], ◌∷◌, length, Ok, Err, codes, Result, nat_le, nat_lt}
 use Rattle.std.specs.Str.{bytes_eq}
-use Rattle.sets.specs.Sets.{no_ways, with_way}
-use Rattle.sets.specs.declared.way_set.WaySet.{WaySet}
+use Rattle.sets.specs.Sets.{nobody, with_member, WaySet}
 use Rattle.taskset.specs.declared.task.Kind.{Kind}
 use Rattle.taskset.specs.declared.task.Kind.TheVariants.{Split, Whole}
 use Rattle.textparts.specs.Shapes.{is_name}
@@ -23,10 +22,10 @@ is_ways bs = nat_lt 0 (length bs) && rising 48 bs
 -- the ways whose digits these are, besides a set of ways
 abbrev pub ways_onto : WaySet → List ℕ → WaySet
 ways_onto s [] = s
-ways_onto s (b ∷ bs) = ways_onto (with_way s (b - 48)) bs
+ways_onto s (b ∷ bs) = ways_onto (with_member s (b - 48)) bs
 
 abbrev pub ways_of : List ℕ → WaySet
-ways_of bs = ways_onto no_ways bs
+ways_of bs = ways_onto (nobody 8) bs
 
 -- a kind: `split` or `whole`
 abbrev pub is_kind : List ℕ → Bool

@@ -1,4 +1,4 @@
-// A table text, read into a draft or refused with its first fault.
+//! A table text, read into a draft or refused with its first fault.
 #![tactic(auto)]
 
 pub mod fault;

@@ -1,4 +1,4 @@
-// What reading a table text answers, on examples: every refusal with its number, detail and word, and each limit from both sides.
+//! What reading a table text answers, on examples: every refusal with its number, detail and word, and each limit from both sides.
 #![tactic(auto)]
 
 use refusal::Refusal;
@@ -6,7 +6,8 @@ use tabletext::fault::TextFault;
 use tabletext::text;
 use taskset::draft::Draft;
 
-// The refusal's number and detail, or zeros where the text is read. A refused text has to leave no task.
+// The refusal's number and detail, or zeros where the text is read. A refused text has to leave no task: 255 says that one did.
+// Numbers and no `Option`, so that a case is one row of a table: no refusal has the number 0 or 255.
 fn refusal_of(table: &[u8]) -> (u8, usize) {
     let mut draft = Draft::empty();
     match text::read(table, &mut draft) {
@@ -21,7 +22,7 @@ fn refusal_of(table: &[u8]) -> (u8, usize) {
     }
 }
 
-// The refusal's word, or none where the text is read.
+// The refusal's word, or an empty one where the text is read, which no refusal has: no `Option`, so that a case is one row of a table.
 fn word_of(table: &[u8]) -> &'static str {
     let mut draft = Draft::empty();
     match text::read(table, &mut draft) {
@@ -31,19 +32,16 @@ fn word_of(table: &[u8]) -> &'static str {
 }
 
 // Sixteen task lines of 21 bytes each, and one line more at place 336.
+// An array, and no `Vec`: a list would need an allocator and an answer for want of memory, and be no plainer.
+// In 400 bytes, which is 336 and at most 64 more, and spaces behind them: spaces at a line's end say nothing.
 fn sixteen_and(last: &[u8]) -> [u8; 400] {
-    let mut bytes = [32u8; 400];
-    let line = b"task a 1 1 1 0 split\n";
-    for i in 0..16usize {
-        for j in 0..line.len() {
-            bytes[21 * i + j] = if j == 5 { 97 + i as u8 } else { line[j] };
-        }
+    let mut bytes = [b' '; 400];
+    for (line, letter) in bytes[..336].chunks_exact_mut(21).zip(b'a'..=b'p') {
+        line.copy_from_slice(b"task a 1 1 1 0 split\n");
+        line[5] = letter;
     }
-    for j in 0..last.len() {
-        if j < 64 {
-            bytes[336 + j] = last[j];
-        }
-    }
+    let n = last.len().min(64);
+    bytes[336..336 + n].copy_from_slice(&last[..n]);
     bytes
 }
 

@@ -1,26 +1,22 @@
 -- The steps and laws of a reader at the very bytes that its code cuts out of the text.
-use Rattle.std.proofs.Common.{◌≡◌, ℕ, suc, ◌+◌, ◌-◌, ◌<◌, ◌≤◌, Bool, true, false, cond, ◌&&◌, ◌||◌, eqb, leb, List, [], ◌∷◌, map, length, take, drop, sym, refl, ap, ◌∙◌, subst, ⊎_elim, add-zero, one-add, arith, length-drop, length-take-le}
+use Rattle.std.proofs.Common.{◌≡◌, ℕ, suc, ◌+◌, ◌-◌, ◌<◌, ◌≤◌, true, false, cond, ◌||◌, eqb, leb, List, [], ◌∷◌, map, length, take, drop, sym, refl, ap, ◌∙◌, subst, ⊎_elim, add-zero, one-add, arith, length-drop, length-take-le}
 use Rattle.std.specs.List.{prefix_len}
 use Rattle.std.proofs.lemmas.Slice.{between_to_end}
-use Rattle.std.proofs.lemmas.Bool.Decides.{nat_tests, leb_tells}
+use Rattle.std.proofs.lemmas.Bool.Decides.{nat_tests, leb_tells, eqb_tells}
 use Rattle.textparts.specs.declared.bytes.Class.TheVariants.{InLine, Space, InWord}
 use Rattle.textparts.specs.Bytes.{has, each}
 use Rattle.textparts.specs.Spans.{at, lines, words}
-use Rattle.textparts.specs.Tokens.{remark, told, pieces, hashed}
+use Rattle.textparts.specs.Tokens.{Token, remark, told, pieces, hashed}
 use Rattle.textparts.specs.Laws.{ends, gap, opens, closes, LineIn, PieceIn, RemarkIn}
-use Rattle.textparts.proofs.Runs.{run-each, each-drop, true-not-false}
-use Rattle.textparts.proofs.Steps.{no_line, next-line, next_word, no_word, past-spaces, past}
-use Rattle.textparts.proofs.Standing.{line-stops, line-in, next-opens, left-past, word-stops, word_in, told_in, remark-in}
+use Rattle.textparts.proofs.Runs.{run-each, each-drop}
+use Rattle.textparts.proofs.Steps.{next-line, next_word, no_word, past-spaces, past}
+use Rattle.textparts.proofs.Standing.{line-stops, line-in, next-opens, left-past, word-stops, word_in, told_in, remark-in, nothing_left}
 
 -- `&text[p..]`
 to_end : (t : List ℕ) (p : ℕ) → take (length t - p) (drop p t) ≡ drop p t
 to_end t p = between_to_end t p (length t) (omega arith)
 
--- `&text[p..][0..n]`
-front : (t : List ℕ) (p n : ℕ) → take n (drop p t) ≡ take (n - 0) (take (length t - p) (drop p t))
-front t p n = let off : n ≡ n - 0 = omega arith in ap (λ k. take k (drop p t)) off ∙ ap (take (n - 0)) (sym (to_end t p))
-
--- the state that `next_line` leaves, but for the next line's place
+-- what holds of a line that begins at p and is n bytes long
 pub line-left : (t : List ℕ) (p n : ℕ) → p < length t → n ≤ length (take (length t - p) (drop p t)) → n ≡ prefix_len (has InLine) (take (length t - p) (drop p t)) → (opens ends t p || leb (length t) p) ≡ true →
     (p + n ≤ length t) × (each (has InLine) (take (p + n - p) (drop p t)) ≡ true) × (closes ends t (p + n) ≡ true) × ((opens gap t p || closes gap t p) ≡ true)
 line-left t p n h within e lined =
@@ -42,17 +38,16 @@ next-lined t p n q e some none =
     (leb_tells (suc (p + n)) (length t))
 
 pub line-found : (t : List ℕ) (p n q : ℕ) → p < length t → n ≡ prefix_len (has InLine) (take (length t - p) (drop p t)) → (p + n < length t → q ≡ p + n + 1) → (length t ≤ p + n → q ≡ p + n) →
-    (lines p (drop p t) ≡ at p (take (n - 0) (take (length t - p) (drop p t))) ∷ lines q (drop q t)) × (pieces p (take (p + n - p) (drop p t)) ≡ pieces p (take (n - 0) (take (length t - p) (drop p t))))
+    lines p (drop p t) ≡ at p (take (p + n - p) (drop p t)) ∷ lines q (drop q t)
 line-found t p n q h e some none =
-    let off : p + n - p ≡ n = omega arith in (
-      next-line t p n q h (e ∙ ap (prefix_len (has InLine)) (to_end t p)) some none ∙ ap (λ bs. at p bs ∷ lines q (drop q t)) (front t p n),
-      ap (λ k. pieces p (take k (drop p t))) off ∙ ap (pieces p) (front t p n),
-    )
+    let off : n ≡ p + n - p = omega arith in
+    next-line t p n q h (e ∙ ap (prefix_len (has InLine)) (to_end t p)) some none ∙ ap (λ k. at p (take k (drop p t)) ∷ lines q (drop q t)) off
 
-pub line-stands : (t : List ℕ) (p n : ℕ) → p < length t → p + n ≤ length t → n ≡ prefix_len (has InLine) (take (length t - p) (drop p t)) → (opens ends t p || leb (length t) p) ≡ true → LineIn t (at p (take (n - 0) (take (length t - p) (drop p t))))
+pub line-stands : (t : List ℕ) (p n : ℕ) → p < length t → p + n ≤ length t → n ≡ prefix_len (has InLine) (take (length t - p) (drop p t)) → (opens ends t p || leb (length t) p) ≡ true → LineIn t (at p (take (p + n - p) (drop p t)))
 line-stands t p n h within e lined =
+    let off : n ≡ p + n - p = omega arith in
     let open-here : opens ends t p ≡ true = grind (arith, nat_tests) in
-    subst (λ bs. LineIn t (at p bs)) (front t p n) (line-in t p n within (e ∙ ap (prefix_len (has InLine)) (to_end t p)) open-here)
+    subst (λ k. LineIn t (at p (take k (drop p t)))) off (line-in t p n within (e ∙ ap (prefix_len (has InLine)) (to_end t p)) open-here)
 
 -- pieces ----------------------------------------------------------------------------------------------------------------------
 
@@ -99,13 +94,13 @@ fresh-remark a s u e h =
     let skip = subst (λ k. pieces a u ≡ pieces (a + k) (drop k u)) (sym e) (pieces-past a u) in
     skip ∙ hashed-pieces (a + s) (drop s u) h
 
--- `&here[s..]`
+-- `&rest[s..]`
 rest_of : (u : List ℕ) (s : ℕ) → take (length u - s) (drop s u) ≡ drop s u
 rest_of u s = between_to_end u s (length u) (omega arith)
 
--- `&here[s..][0..n]`
-word-part : (u : List ℕ) (s n : ℕ) → take n (drop s u) ≡ take (n - 0) (take (length u - s) (drop s u))
-word-part u s n = let off : n ≡ n - 0 = omega arith in ap (λ k. take k (drop s u)) off ∙ ap (take (n - 0)) (sym (rest_of u s))
+-- `&rest[s..][..n]`
+word-part : (u : List ℕ) (s n : ℕ) → take n (drop s u) ≡ take n (take (length u - s) (drop s u))
+word-part u s n = ap (take n) (sym (rest_of u s))
 
 -- the word lies in what is left of the line
 word-within : (t : List ℕ) (a e s n : ℕ) → a ≤ e → e ≤ length t → s ≤ length (take (e - a) (drop a t)) → n ≤ length (take (length (take (e - a) (drop a t)) - s) (drop s (take (e - a) (drop a t)))) → a + s + n ≤ e
@@ -143,7 +138,7 @@ word-left t a e s n h =
     )
 
 pub word-found : (t : List ℕ) (a e s n : ℕ) → AtWord t a e s n → 0 < n →
-    map told (words a (take (e - a) (drop a t))) ≡ told (at (a + s) (take (n - 0) (take (length (take (e - a) (drop a t)) - s) (drop s (take (e - a) (drop a t)))))) ∷ map told (words (a + s + n) (take (e - (a + s + n)) (drop (a + s + n) t)))
+    map told (words a (take (e - a) (drop a t))) ≡ told (at (a + s) (take n (take (length (take (e - a) (drop a t)) - s) (drop s (take (e - a) (drop a t)))))) ∷ map told (words (a + s + n) (take (e - (a + s + n)) (drop (a + s + n) t)))
 word-found t a e s n h some =
     let u = take (e - a) (drop a t) in
     let in-line = word-within t a e s n h.order h.inside h.spaced h.fits in
@@ -151,9 +146,9 @@ word-found t a e s n h some =
     let rest : drop (s + n) u ≡ take (e - (a + s + n)) (drop (a + s + n) t) = left-past t a e (s + n) (omega arith) ∙ ap (λ k. take (e - k) (drop k t)) sum in
     ap (map told) (next_word u a s n h.space (run_of t a e s n h) some)
     ∙ ap (λ bs. told (at (a + s) bs) ∷ map told (words (a + s + n) (drop (s + n) u))) (word-part u s n)
-    ∙ ap (λ xs. told (at (a + s) (take (n - 0) (take (length u - s) (drop s u)))) ∷ map told (words (a + s + n) xs)) rest
+    ∙ ap (λ xs. told (at (a + s) (take n (take (length u - s) (drop s u)))) ∷ map told (words (a + s + n) xs)) rest
 
-pub word_stands : (t : List ℕ) (a e s n : ℕ) → AtWord t a e s n → 0 < n → PieceIn t (told (at (a + s) (take (n - 0) (take (length (take (e - a) (drop a t)) - s) (drop s (take (e - a) (drop a t)))))))
+pub word_stands : (t : List ℕ) (a e s n : ℕ) → AtWord t a e s n → 0 < n → PieceIn t (told (at (a + s) (take n (take (length (take (e - a) (drop a t)) - s) (drop s (take (e - a) (drop a t)))))))
 word_stands t a e s n h some =
     let in-line = word-within t a e s n h.order h.inside h.spaced h.fits in
     subst (λ bs. PieceIn t (told (at (a + s) bs))) (word-part (take (e - a) (drop a t)) s n)
@@ -163,37 +158,35 @@ pub word_none : (t : List ℕ) (a e s n : ℕ) → AtWord t a e s n → n ≡ 0 
 word_none t a e s n h z = no_word (take (e - a) (drop a t)) a s h.space (sym (run_of t a e s n h) ∙ z)
 
 -- a fresh line's pieces where no remark stands
-pub fresh-plain : (a s : ℕ) (u : List ℕ) → s ≡ prefix_len (has Space) u → false ≡ hashed (take (length u - s) (drop s u)) → pieces a u ≡ map told (words a u)
-fresh-plain a s u e h = fresh-words a s u e (sym (h ∙ ap hashed (rest_of u s)))
+pub fresh-plain : (a s : ℕ) (u : List ℕ) → s ≡ prefix_len (has Space) u → hashed (take (length u - s) (drop s u)) ≡ false → pieces a u ≡ map told (words a u)
+fresh-plain a s u e h = fresh-words a s u e (sym (ap hashed (rest_of u s)) ∙ h)
 
-pub remark-found : (a s : ℕ) (u : List ℕ) → s ≡ prefix_len (has Space) u → true ≡ hashed (take (length u - s) (drop s u)) → pieces a u ≡ remark (at (a + s) (take (length u - s) (drop s u))) ∷ []
-remark-found a s u e h = fresh-remark a s u e (sym (h ∙ ap hashed (rest_of u s))) ∙ ap (λ bs. remark (at (a + s) bs) ∷ []) (sym (rest_of u s))
+pub remark-found : (a start s : ℕ) (u : List ℕ) → a ≡ start → s ≡ prefix_len (has Space) u → hashed (take (length u - s) (drop s u)) ≡ true → cond (eqb a start) (pieces a u) (map told (words a u)) ≡ remark (at (a + s) (take (length u - s) (drop s u))) ∷ []
+remark-found a start s u f e h =
+    let fresh : eqb a start ≡ true = grind (arith, nat_tests) in
+    ap (λ b. cond b (pieces a u) (map told (words a u))) fresh ∙ fresh-remark a s u e (sym (ap hashed (rest_of u s)) ∙ h) ∙ ap (λ bs. remark (at (a + s) bs) ∷ []) (sym (rest_of u s))
 
 pub remark-stands : (t : List ℕ) (a e s : ℕ) → a ≤ e → e ≤ length t → s ≤ length (take (e - a) (drop a t)) → each (has InLine) (take (e - a) (drop a t)) ≡ true → (opens gap t a || closes gap t a) ≡ true → closes ends t e ≡ true →
-    s ≡ prefix_len (has Space) (take (e - a) (drop a t)) → true ≡ hashed (take (length (take (e - a) (drop a t)) - s) (drop s (take (e - a) (drop a t)))) → RemarkIn t (at (a + s) (take (length (take (e - a) (drop a t)) - s) (drop s (take (e - a) (drop a t)))))
+    s ≡ prefix_len (has Space) (take (e - a) (drop a t)) → hashed (take (length (take (e - a) (drop a t)) - s) (drop s (take (e - a) (drop a t)))) ≡ true → RemarkIn t (at (a + s) (take (length (take (e - a) (drop a t)) - s) (drop s (take (e - a) (drop a t)))))
 remark-stands t a e s ae et sl whole uncut ended es h =
     let u = take (e - a) (drop a t) in
     let long : length u ≡ e - a = length-take-le (e - a) (drop a t) (omega (arith, length-drop a t)) in
-    subst (λ bs. RemarkIn t (at (a + s) bs)) (sym (rest_of u s)) (remark-in t a e s (omega arith) et whole uncut ended es (sym (h ∙ ap hashed (rest_of u s))))
+    subst (λ bs. RemarkIn t (at (a + s) bs)) (sym (rest_of u s)) (remark-in t a e s (omega arith) et whole uncut ended es (sym (ap hashed (rest_of u s)) ∙ h))
+
+-- nothing is left past the end of a line
+pub end-left : (start e : ℕ) (t : List ℕ) → cond (eqb e start) (pieces e (take (e - e) (drop e t))) (map told (words e (take (e - e) (drop e t)))) ≡ []
+end-left start e t =
+    ap (λ xs. cond (eqb e start) (pieces e xs) (map told (words e xs))) (sym (nothing_left e t))
+    ∙ (elim (eqb e start) as (λ b. cond {A = List Token} b [] [] ≡ []) [ true ↦ refl | false ↦ refl ])
 
 -- what is left of a line where no remark stands at its front
-pub plain-left : (fresh : Bool) (a s : ℕ) (u : List ℕ) → s ≡ prefix_len (has Space) u → (fresh ≡ true → false ≡ hashed (take (length u - s) (drop s u))) → cond fresh (pieces a u) (map told (words a u)) ≡ map told (words a u)
-plain-left true a s u e h = fresh-plain a s u e (h refl)
-plain-left false a s u e h = refl
+pub plain-left : (a start s : ℕ) (u : List ℕ) → s ≡ prefix_len (has Space) u → (a ≡ start → hashed (take (length u - s) (drop s u)) ≡ false) → cond (eqb a start) (pieces a u) (map told (words a u)) ≡ map told (words a u)
+plain-left a start s u e h =
+    ⊎_elim
+    (λ p. ap (λ b. cond b (pieces a u) (map told (words a u))) p.0 ∙ fresh-plain a s u e (h p.1))
+    (λ p. ap (λ b. cond b (pieces a u) (map told (words a u))) p.0)
+    (eqb_tells a start)
 
--- whether a remark stands at the front, as the code asks
-pub ahead : (fresh : Bool) (s : ℕ) (u : List ℕ) → s ≡ prefix_len (has Space) u → (fresh && hashed (drop (prefix_len (has Space) u) u)) ≡ (fresh && hashed (take (length u - s) (drop s u)))
-ahead fresh s u e = ap (λ k. fresh && hashed (drop k u)) (sym e) ∙ ap (λ xs. fresh && hashed xs) (sym (rest_of u s))
-
-pub ahead-yes : (fresh : Bool) (s : ℕ) (u : List ℕ) → s ≡ prefix_len (has Space) u → (fresh && hashed (drop (prefix_len (has Space) u) u)) ≡ true → (fresh ≡ true) × (true ≡ hashed (take (length u - s) (drop s u)))
-ahead-yes true s u e h = (refl, sym h ∙ ahead true s u e)
-ahead-yes false s u e h = absurd (true-not-false (sym h))
-
-pub ahead-no : (fresh : Bool) (s : ℕ) (u : List ℕ) → s ≡ prefix_len (has Space) u → (fresh && hashed (drop (prefix_len (has Space) u) u)) ≡ false → fresh ≡ true → false ≡ hashed (take (length u - s) (drop s u))
-ahead-no true s u e h f = sym h ∙ ahead true s u e
-ahead-no false s u e h f = absurd (true-not-false (sym f))
-
--- no line after the last
-pub none_left : (t : List ℕ) (p : ℕ) → cond (eqb p (length t)) (lines p (drop p t) ≡ []) (Unit {0})
-none_left t p =
-    (elim (eqb p (length t)) as (λ b. eqb p (length t) ≡ b → cond b (lines p (drop p t) ≡ []) (Unit {0})) [ true ↦ λ e. let end : length t ≤ p = grind (arith, nat_tests) in no_line t p end | false ↦ λ e. tt ]) refl
+-- a line that has been begun has no remark any more
+pub begun-left : (a start : ℕ) (u : List ℕ) → start < a → map told (words a u) ≡ cond (eqb a start) (pieces a u) (map told (words a u))
+begun-left a start u lt = let b : false ≡ eqb a start = grind (arith, nat_tests) in ap (λ v. cond v (pieces a u) (map told (words a u))) b

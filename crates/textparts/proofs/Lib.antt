@@ -4,3 +4,4 @@ pub mod Steps
 pub mod Standing
 pub mod Found
 pub mod Order
+pub mod Spelt

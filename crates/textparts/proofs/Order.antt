@@ -1,7 +1,6 @@
 -- That lines and words stand in the text, in rising order, and that a line is a remark or its words.
-use Rattle.std.proofs.Common.{◌≡◌, ℕ, suc, ◌+◌, ◌<◌, ◌≤◌, true, false, cond, not, eqb, ◌⊎◌, List, [], ◌∷◌, map, length, get_or, take, drop, sym, refl, ap, ◌∙◌, subst, inl, inr, arith}
+use Rattle.std.proofs.Common.{◌≡◌, ℕ, suc, ◌+◌, ◌<◌, true, false, cond, not, eqb, ◌⊎◌, List, [], ◌∷◌, map, length, get_or, take, drop, sym, refl, ap, ◌∙◌, subst, inl, inr, arith}
 use Rattle.std.specs.List.{AllByRecursion}
-use Rattle.std.proofs.ByRecursion.{All-weaker}
 use Rattle.std.proofs.lemmas.List.{drop_more}
 use Rattle.textparts.specs.declared.bytes.Class.TheVariants.{InLine, Space}
 use Rattle.textparts.specs.Bytes.{has}
@@ -97,9 +96,6 @@ Past p ss = AllByRecursion (λ s. p < s.place) ss
 abbrev pub Rising : List Span → Type 0
 Rising [] = Unit {0}
 Rising (s ∷ ss) = Past s.place ss × Rising ss
-
-past_more : (p q : ℕ) (ss : List Span) → p ≤ q → Past q ss → Past p ss
-past_more p q ss h k = All-weaker (λ s. q < s.place) (λ s. p < s.place) (λ s l. omega arith) ss k
 
 -- no word begins before the bytes do
 from-words : (p q : ℕ) (xs : List ℕ) → p < q → Past p (words q xs)

@@ -1,7 +1,6 @@
 -- The longest run of bytes that pass a test, and what holds of each byte.
 use Rattle.std.proofs.Common.{◌≡◌, ℕ, zero, suc, ◌+◌, ◌<◌, Bool, true, false, cond, ◌&&◌, eqb, List, [], ◌∷◌, length, get_or, take, drop, refl, ap, ◌∙◌, one-add, arith}
 use Rattle.std.specs.List.{prefix_len}
-use Rattle.std.proofs.lemmas.List.{at_drop_more}
 use Rattle.std.proofs.lemmas.Bool.Decides.{nat_tests}
 use Rattle.textparts.specs.Bytes.{each}
 
@@ -34,13 +33,6 @@ each_at p [] i d e h = absurd (omega arith)
 each_at p (x ∷ xs) zero d e h = grind arith
 each_at p (x ∷ xs) (suc i) d e h = let rest : each p xs ≡ true = grind arith in each_at p xs i d rest (omega arith)
 
-pub each_from : (p : ℕ → Bool) (xs : List ℕ) (d : ℕ) → ((i : ℕ) → i < length xs → p (get_or xs i d) ≡ true) → each p xs ≡ true
-each_from p [] d h = refl
-each_from p (x ∷ xs) d h = ap (λ v. v && each p xs) (h 0 (omega arith)) ∙ each_from p xs d (λ i lt. h (suc i) (omega arith))
-
-pub each-front : (p : ℕ → Bool) (xs : List ℕ) (i : ℕ) → i < length xs → each p (drop i xs) ≡ true → (p (get_or xs i 0) ≡ true) × (each p (drop (i + 1) xs) ≡ true)
-each-front p xs i h e = let s = at_drop_more (each p) xs i 0 h in grind arith
-
 pub each-drop : (p : ℕ → Bool) (n : ℕ) (xs : List ℕ) → each p xs ≡ true → each p (drop n xs) ≡ true
 each-drop p zero xs e = e
 each-drop p (suc n) [] e = refl
@@ -63,6 +55,3 @@ each_both p q r h (x ∷ xs) e f =
     let pr : each p xs ≡ true = grind arith in
     let qr : each q xs ≡ true = grind arith in
     ap (λ v. v && each r xs) (h x px qx) ∙ each_both p q r h xs pr qr
-
-pub true-not-false : true ≡ false → ⊥
-true-not-false e = let z : ◌≡◌ {A = ℕ} 0 1 = cc in omega arith

@@ -1,14 +1,12 @@
--- What a part and a piece hold, and what a reader has still to hand out.
-use Rattle.std.specs.Prelude.{ℕ, ◌-◌, Bool, cond, ◌&&◌, List, map, length, take, drop, ◌==◌}
-use Rattle.std.specs.List.{prefix_len}
-use Rattle.textparts.specs.declared.bytes.Class.TheVariants.{Space}
-use Rattle.textparts.specs.Bytes.{has}
+-- What a part and a piece hold, and what a reader and a line have still to hand out.
+use Rattle.std.specs.Prelude.{ℕ, ◌-◌, cond, List, map, take, drop, ◌==◌}
 use Rattle.textparts.specs.declared.part.Part.{Part}
 use Rattle.textparts.specs.declared.part.Piece.{Piece}
 use Rattle.textparts.specs.declared.part.Piece.TheVariants.{Word, Number, Remark}
+use Rattle.textparts.specs.declared.reader.Line.{Line}
 use Rattle.textparts.specs.declared.reader.Reader.{Reader}
 use Rattle.textparts.specs.Spans.{Span, at, lines, words}
-use Rattle.textparts.specs.Tokens.{Token, word, number, remark, told, pieces, hashed}
+use Rattle.textparts.specs.Tokens.{Token, word, number, remark, told, pieces}
 
 abbrev pub span_of : Part → Span
 span_of p = at p.place p.bytes.now
@@ -26,18 +24,18 @@ text_of r = r.text.now
 abbrev pub to_come : Reader → List Span
 to_come r = lines r.next (drop r.next r.text.now)
 
--- the bytes of this line still to come
-abbrev pub unread : Reader → List ℕ
-unread r = take (r.end - r.at) (drop r.at r.text.now)
+-- the text that a line was cut from
+abbrev pub whole_text : Line → List ℕ
+whole_text l = l.text.now
 
--- the pieces of this line still to come; only its first can be a remark
-abbrev pub left : Reader → List Token
-left r = cond r.fresh (pieces r.at (unread r)) (map told (words r.at (unread r)))
+-- a line, whatever is left of it
+abbrev pub line_of : Line → Span
+line_of l = at l.start (take (l.end - l.start) (drop l.start l.text.now))
 
--- no line is still to come
-abbrev pub done : Reader → Bool
-done r = r.next == length r.text.now
+-- the bytes of a line still to come
+abbrev pub unread : Line → List ℕ
+unread l = take (l.end - l.at) (drop l.at l.text.now)
 
--- a remark stands at the front of a fresh line, past its spaces
-abbrev pub remarked : Reader → Bool
-remarked r = r.fresh && hashed (drop (prefix_len (has Space) (unread r)) (unread r))
+-- the pieces of a line still to come; only the first of a line can be a remark
+abbrev pub left : Line → List Token
+left l = cond (l.at == l.start) (pieces l.at (unread l)) (map told (words l.at (unread l)))

@@ -1,4 +1,5 @@
-// A text taken apart: its lines, and the words, numbers and remarks of each line, every one of them a part of the text with its place.
+//! A text taken apart: its lines, and the words, numbers and remarks of each line, every one of them
+//! a part of the text with its place.
 #![tactic(auto)]
 
 pub mod bytes;

@@ -1,19 +1,16 @@
-use Rattle.std.proofs.Common.{◌≡◌, eqb, length, ap, ◌∙◌, arith}
-use Rattle.std.specs.List.{prefix_len}
-use Rattle.std.proofs.lemmas.List.Sums.{prefix_len-drop_yes, prefix_len-drop_no, prefix_len-drop_all}
+use Rattle.std.proofs.Common.{◌≡◌, eqb, length, ap, ◌∙◌, rules, tests}
+use Rattle.std.specs.List.{take_while}
+use Rattle.std.proofs.lemmas.Iterator.{YieldsList-from_slice}
+use Rattle.std.proofs.lemmas.Iterator.Consumers.{YieldsList-at, count_from_yields_List}
+use Rattle.std.proofs.lemmas.Iterator.Search.{YieldsList-from_take_while}
+use Rattle.std.proofs.lemmas.List.Folds.{length-prefix_len}
 use Rattle.textparts.specs.Bytes.{has}
 use Rattle.textparts.proofs.Runs.{run-all}
 use Rattle.textparts.proofs.bytes.Class.run.Goals as goal
 
-pub loop-n-preserved : goal.loop-n-preserved
-loop-n-preserved c = grind (arith, prefix_len-drop_yes (has c.args.self))
-
-pub returns-else-has : goal.returns-else-has
-returns-else-has c =
-    let n : c.loop-n.n ≡ prefix_len (has c.args.self) c.args.bytes.now = grind (arith, prefix_len-drop_no (has c.args.self)) in
-    record { count = n; within = omega arith; whole = ap (λ k. eqb k (length c.args.bytes.now)) n ∙ run-all (has c.args.self) c.args.bytes.now }
-
-pub returns-after-loop-n : goal.returns-after-loop-n
-returns-after-loop-n c =
-    let n : c.loop-n.n ≡ prefix_len (has c.args.self) c.args.bytes.now = grind (arith, prefix_len-drop_all (has c.args.self)) in
-    record { count = n; within = omega arith; whole = ap (λ k. eqb k (length c.args.bytes.now)) n ∙ run-all (has c.args.self) c.args.bytes.now }
+pub returns-clause-whole : goal.returns-clause-whole
+returns-clause-whole c =
+    let p = has c.args.self in
+    let bytes = c.args.bytes.now in
+    let taken : c.count.result ≡ length (take_while p bytes) = count_from_yields_List c.take_while.result _ c.count.ensures.ran (YieldsList-from_take_while _ p (YieldsList-at c.take_while.ensures.source (YieldsList-from_slice bytes cc)) c.take_while.ensures.closure c.take_while.ensures.done (λ x b q k. search (rules, tests))) in
+    ap (λ k. eqb k (length bytes)) (taken ∙ length-prefix_len p bytes) ∙ run-all p bytes
