@@ -1,8 +1,7 @@
 -- What two resources keep of the sentences as one.
 use Rattle.std.proofs.Common.{◌≡◌, ℕ, zero, suc, Bool, true, false, ◌&&◌, ◌||◌, ltb, refl, ap, ◌∙◌, inl, inr, ⊎_elim, arith}
 use Rattle.std.proofs.lemmas.Bool.Decides.{nat_tests}
-use Rattle.sets.specs.declared.way_set.WaySet.{WaySet}
-use Rattle.sets.specs.Sets.{names}
+use Rattle.sets.specs.Sets.{WaySet, has}
 use Rattle.sets.specs.Below.{some_below}
 use Rattle.sets.proofs.Below.{bool_tells, some-ext}
 use Rattle.resource.specs.Seen.{Seen, Sound, Fixed, Kept, RunOn, clean, touched}
@@ -63,7 +62,7 @@ both-kept x y x' y' w e a b =
     }
 
 -- a run call on the ways that both have bears on a way in each part where it bears on it in the pair
-module _ (x y : Seen) (task : ℕ) (ways shared : WaySet) (named : (w : ℕ) → names shared w ≡ (names ways w && ltb w (shared_ways x y))) where
+module _ (x y : Seen) (task : ℕ) (ways shared : WaySet) (named : (w : ℕ) → has shared w ≡ (has ways w && ltb w (shared_ways x y))) where
   touched-first : (w : ℕ) → touched x task shared w ≡ touched (both x y) task ways w
   touched-first w = let f = named w in grind (arith, nat_tests)
 

@@ -1,7 +1,6 @@
 -- What a pair means as a resource, by what its two parts mean.
 use Rattle.std.specs.Prelude.{◌≡◌, ℕ, ◌<◌, ◌≤◌, true, false, ◌&&◌, nat_lt}
-use Rattle.sets.specs.declared.way_set.WaySet.{WaySet}
-use Rattle.sets.specs.Sets.{names}
+use Rattle.sets.specs.Sets.{WaySet, has}
 use Rattle.resource.specs.declared.answer.Progress.{Progress}
 use Rattle.resource.specs.Answers.{is_done}
 use Rattle.resource.specs.Seen.{Seen, clean}
@@ -16,7 +15,7 @@ pair_seen m n s = both (m.seen s.first) (n.seen s.second)
 -- one run call: it goes to both parts, on those of its ways that both have
 pub record PairRuns {A B : Type 0} (m : Meaning A) (n : Meaning B) (s : Pair A B) (task : ℕ) (ways : WaySet) (address : ℕ) (t : Pair A B) : Type 0 where
   pub shared : WaySet
-  pub named : (w : ℕ) → names shared w ≡ (names ways w && nat_lt w (pair_seen m n s).ways)
+  pub named : (w : ℕ) → has shared w ≡ (has ways w && nat_lt w (pair_seen m n s).ways)
   pub first : Ran m s.first task shared address t.first
   pub second : Ran n s.second task shared address t.second
 

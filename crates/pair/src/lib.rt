@@ -1,4 +1,4 @@
-// A pair: any two resources held as one. A task that runs on a way runs on it in both, and the way is clean once it is clean in both.
+//! A pair: any two resources held as one. A task that runs on a way runs on it in both, and the way is clean once it is clean in both.
 #![tactic(auto)]
 
 ghost use Rattle.std.specs.Prelude.{◌≡◌, ◌&&◌};
@@ -9,24 +9,28 @@ ghost use Rattle.pair.specs.Pairs.{pair_meaning, Steps};
 
 use resource::answer::Progress;
 use resource::resource::Resource;
-use sets::way_set::WaySet;
+use sets::number_set::WaySet;
 
+/// Two resources; way w of the pair is way w of both.
 #[derive(Drop)]
 pub struct Pair<A, B> {
-    first: A,
-    second: B,
+    pub first: A,
+    pub second: B,
 }
 
 impl<A, B> Pair<A, B> {
+    /// Holds the two as one.
     pub fn new(first: A, second: B) -> Pair<A, B>
-        ensures { (result.first ≡ first) × (result.second ≡ second) }
+        ensures first { result.first ≡ first }
+        ensures second { result.second ≡ second }
     {
         Pair { first, second }
     }
 
-    // Takes the pair apart.
+    /// Takes the pair apart.
     pub fn into_parts(self) -> (A, B)
-        ensures { (result.0 ≡ self.first) × (result.1 ≡ self.second) }
+        ensures first { result.0 ≡ self.first }
+        ensures second { result.1 ≡ self.second }
     {
         (self.first, self.second)
     }
@@ -35,24 +39,28 @@ impl<A, B> Pair<A, B> {
 impl<A: Resource, B: Resource> Pair<A, B> {
     // The number of ways that both have.
     fn shared(&self) -> u8
-        ensures first { Sound (A.Resource.meaning.seen self.now.first) }
-        ensures second { Sound (B.Resource.meaning.seen self.now.second) }
-        ensures count { result ≡ shared_ways (A.Resource.meaning.seen self.now.first) (B.Resource.meaning.seen self.now.second) }
+        ensures first { Sound (A.meaning.seen self.now.first) }
+        ensures second { Sound (B.meaning.seen self.now.second) }
+        ensures count { let x = A.meaning.seen self.now.first in
+            let y = B.meaning.seen self.now.second in
+            result ≡ shared_ways x y }
     {
         self.first.way_count().min(self.second.way_count())
     }
 
     // Is the way clean in both parts?
     fn both_clean(&self, way: u8) -> bool
-        ensures { result ≡ (clean (A.Resource.meaning.seen self.now.first) way && clean (B.Resource.meaning.seen self.now.second) way) }
+        ensures { let x = A.meaning.seen self.now.first in
+            let y = B.meaning.seen self.now.second in
+            result ≡ (clean x way && clean y way) }
     {
         self.first.is_clean(way) && self.second.is_clean(way)
     }
 
     // The same run call on both parts.
     fn run_both(&mut self, task: u8, ways: WaySet, address: u32)
-        ensures first { Ran A.Resource.meaning self.old.first task ways address self.new.first }
-        ensures second { Ran B.Resource.meaning self.old.second task ways address self.new.second }
+        ensures first { Ran A.meaning self.old.first task ways address self.new.first }
+        ensures second { Ran B.meaning self.old.second task ways address self.new.second }
     {
         self.first.run(task, ways, address);
         self.second.run(task, ways, address);
@@ -60,9 +68,9 @@ impl<A: Resource, B: Resource> Pair<A, B> {
 
     // One scrub call on the part whose turn it is, or on none.
     fn step(&mut self, way: u8)
-        ensures first { Sound (A.Resource.meaning.seen self.old.first) }
-        ensures second { Sound (B.Resource.meaning.seen self.old.second) }
-        ensures steps { Steps A.Resource.meaning B.Resource.meaning self.old way self.new }
+        ensures first { Sound (A.meaning.seen self.old.first) }
+        ensures second { Sound (B.meaning.seen self.old.second) }
+        ensures steps { Steps A.meaning B.meaning self.old way self.new }
     {
         if way >= self.shared() {
             return;
@@ -76,7 +84,7 @@ impl<A: Resource, B: Resource> Pair<A, B> {
 }
 
 impl<A: Resource, B: Resource> Resource for Pair<A, B> {
-    ghost meaning = { pair_meaning A.Resource.meaning B.Resource.meaning };
+    ghost meaning = { pair_meaning A.meaning B.meaning };
 
     fn way_count(&self) -> u8 {
         self.shared()

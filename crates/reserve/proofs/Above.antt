@@ -1,8 +1,7 @@
 -- What hiding the lowest ways keeps of the sentences.
 use Rattle.std.proofs.Common.{◌≡◌, ℕ, ◌+◌, ◌-◌, ◌≤◌, ◌&&◌, ltb, leb, ap, ◌∙◌, arith}
 use Rattle.std.proofs.lemmas.Bool.Decides.{nat_tests}
-use Rattle.sets.specs.declared.way_set.WaySet.{WaySet}
-use Rattle.sets.specs.Sets.{names}
+use Rattle.sets.specs.Sets.{WaySet, has}
 use Rattle.resource.specs.declared.answer.Progress.{Progress}
 use Rattle.resource.specs.Seen.{Seen, Sound, Fixed, Kept, RunOn, ScrubOn, touched}
 use Rattle.reserve.specs.Reserves.{above}
@@ -26,7 +25,7 @@ above_kept : (k : ℕ) (x y : Seen) (w : ℕ) → Kept x y (w + k) → Kept (abo
 above_kept k x y w h = record { traces = h.traces; left = h.left }
 
 -- the sets of ways above and below
-module _ (k : ℕ) (x : Seen) (ways below : WaySet) (named : (w : ℕ) → names below (w + k) ≡ (names ways w && ltb w (x.ways - k))) where
+module _ (k : ℕ) (x : Seen) (ways below : WaySet) (named : (w : ℕ) → has below (w + k) ≡ (has ways w && ltb w (x.ways - k))) where
   touched-below : (task w : ℕ) → touched x task below (w + k) ≡ touched (above k x) task ways w
   touched-below task w = let f = named w in grind (arith, nat_tests)
 
@@ -53,10 +52,10 @@ above-scrub k x way a y r = record {
 }
 
 -- a set of ways, cut to n and raised by k
-pub raised-named : (k n : ℕ) (ways below : WaySet) → n + k ≤ 8 → ((w : ℕ) → names below w ≡ ((leb k w && ltb w 8) && (names ways (w - k) && ltb (w - k) n))) → (w : ℕ) → names below (w + k) ≡ (names ways w && ltb w n)
+pub raised-named : (k n : ℕ) (ways below : WaySet) → n + k ≤ 8 → ((w : ℕ) → has below w ≡ ((leb k w && ltb w 8) && (has ways (w - k) && ltb (w - k) n))) → (w : ℕ) → has below (w + k) ≡ (has ways w && ltb w n)
 raised-named k n ways below l f w =
     let a = f (w + k) in
     let e : w + k - k ≡ w = omega arith in
-    let b : names ways (w + k - k) ≡ names ways w = ap (names ways) e in
+    let b : has ways (w + k - k) ≡ has ways w = ap (has ways) e in
     let d : ltb (w + k - k) n ≡ ltb w n = ap (λ (v : ℕ). ltb v n) e in
     grind (arith, nat_tests)

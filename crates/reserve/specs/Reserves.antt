@@ -1,7 +1,6 @@
 -- What a reserve means as a resource, by what the resource below means.
 use Rattle.std.specs.Prelude.{◌≡◌, ℕ, ◌+◌, ◌-◌, ◌<◌, ◌≤◌, min, true, false, ◌&&◌, nat_lt}
-use Rattle.sets.specs.declared.way_set.WaySet.{WaySet}
-use Rattle.sets.specs.Sets.{names}
+use Rattle.sets.specs.Sets.{WaySet, has}
 use Rattle.resource.specs.declared.answer.Progress.{Progress}
 use Rattle.resource.specs.Answers.{is_done}
 use Rattle.resource.specs.Seen.{Seen}
@@ -29,8 +28,8 @@ reserve_seen m s = above (hidden_ways s) (m.seen s.rest)
 pub record ReserveRuns {A : Type 0} (m : Meaning A) (s : Reserve A) (task : ℕ) (ways : WaySet) (address : ℕ) (t : Reserve A) : Type 0 where
   pub hidden : t.hidden ≡ s.hidden
   pub below : WaySet
-  pub named : (w : ℕ) → names below (w + hidden_ways s) ≡ (names ways w && nat_lt w (reserve_seen m s).ways)
-  pub spared : (w : ℕ) → w < hidden_ways s → names below w ≡ false
+  pub named : (w : ℕ) → has below (w + hidden_ways s) ≡ (has ways w && nat_lt w (reserve_seen m s).ways)
+  pub spared : (w : ℕ) → w < hidden_ways s → has below w ≡ false
   pub rest : Ran m s.rest task below address t.rest
 
 -- one scrub call: on a way of the reserve one scrub call on way w + k below, with its answer; past them done, and nothing has changed

@@ -1,6 +1,6 @@
 -- What the answer to the clean question says of the traces.
-use Rattle.std.proofs.Common.{◌≡◌, ℕ, ◌<◌, ◌≤◌, Bool, true, false, not, sym, refl, ap, ⊎_elim, arith}
-use Rattle.std.proofs.lemmas.Bool.Decides.{leb_tells}
+use Rattle.std.proofs.Common.{◌≡◌, ℕ, ◌<◌, ◌≤◌, Bool, true, false, not, ◌&&◌, eqb, ltb, leb, sym, refl, ap, ◌∙◌, ⊎_elim, arith}
+use Rattle.std.proofs.lemmas.Bool.Decides.{leb_tells, nat_tests}
 use Rattle.sets.specs.Below.{some_below}
 use Rattle.sets.proofs.Below.{some-true, some-false, some-ext, none-at}
 use Rattle.resource.specs.Seen.{Seen, Sound, clean}
@@ -32,3 +32,11 @@ clean-kept x y w h = ap not (some-ext 16 (y.traces w) (x.traces w) (λ k l. h k)
 pub clean-by : (x : Seen) (w : ℕ) (b : Bool) → (b ≡ true → (k : ℕ) → k < 16 → x.traces w k ≡ false) → (b ≡ false → (k : ℕ) × (k < 16) × (x.traces w k ≡ true)) → b ≡ clean x w
 clean-by x w true none some = sym (ap not (some-false 16 (x.traces w) (none refl)))
 clean-by x w false none some = let h = some refl in sym (ap not (some-true 16 (x.traces w) h.0 h.1 h.2))
+
+-- a way that shows one owner is clean where the owner is no task
+pub owner-clean : (x : Seen) (w owner : ℕ) → ((k : ℕ) → x.traces w k ≡ (ltb k 16 && eqb owner k)) → leb 16 owner ≡ clean x w
+owner-clean x w owner h =
+    ⊎_elim
+    (λ p. p.0 ∙ sym (bare-clean x w (λ k. let e = h k in grind (arith, nat_tests))))
+    (λ p. let e = h owner in p.0 ∙ sym (trace-dirty x w owner (omega arith) (grind (arith, nat_tests))))
+    (leb_tells 16 owner)

@@ -1,6 +1,6 @@
 -- What an implementation says of itself: what can be seen of its states, and what one call on it may leave and answer.
 use Rattle.std.specs.Prelude.{ℕ}
-use Rattle.sets.specs.declared.way_set.WaySet.{WaySet}
+use Rattle.sets.specs.Sets.{WaySet}
 use Rattle.resource.specs.declared.answer.Progress.{Progress}
 use Rattle.resource.specs.Seen.{Seen, RunOn, ScrubOn}
 

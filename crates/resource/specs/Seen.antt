@@ -2,8 +2,7 @@
 -- A way is one of the parts that are scrubbed one at a time; a trace is what a task leaves on a way by running there.
 use Rattle.std.specs.Prelude.{◌≡◌, ℕ, ◌<◌, ◌≤◌, Bool, true, false, not, ◌&&◌, ◌⊎◌, nat_lt}
 use Rattle.sets.specs.Below.{some_below}
-use Rattle.sets.specs.declared.way_set.WaySet.{WaySet}
-use Rattle.sets.specs.Sets.{names}
+use Rattle.sets.specs.Sets.{WaySet, has}
 use Rattle.resource.specs.declared.answer.Progress.{Progress}
 use Rattle.resource.specs.Answers.{is_done}
 
@@ -47,7 +46,7 @@ pub record Kept (x y : Seen) (w : ℕ) : Type 0 where
 
 -- a run call for the task on these ways bears on way w: the task is one of 0 to 15, and the way is there and named
 abbrev pub touched : Seen → ℕ → WaySet → ℕ → Bool
-touched x task ways w = nat_lt task 16 && (nat_lt w x.ways && names ways w)
+touched x task ways w = nat_lt task 16 && (nat_lt w x.ways && has ways w)
 
 -- one run call: each way that it bears on holds the task, and beyond it only tasks that this way held before; all others are kept
 pub record RunOn (x : Seen) (task : ℕ) (ways : WaySet) (y : Seen) : Type 0 where

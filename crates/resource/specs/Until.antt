@@ -33,14 +33,7 @@ pub data EachDone {S : Type 0} (m : Meaning S) (s : S) : ℕ → S → Type 0 wh
   none : EachDone m s 0 s
   next : {u t : S} {n calls : ℕ} → EachDone m s n u → UntilDone m n u calls t → EachDone m s (suc n) t
 
--- the law: none of the ways below n holds a trace
-pub record ClearedBelow (n : ℕ) (x y : Seen) : Type 0 where
-  pub before : Sound x
-  pub after : Sound y
-  pub fixed : Fixed x y
-  pub bare : (w k : ℕ) → w < n → y.traces w k ≡ false
-
--- no way at all holds one
+-- the law: no way at all holds a trace
 pub record Cleared (x y : Seen) : Type 0 where
   pub before : Sound x
   pub after : Sound y

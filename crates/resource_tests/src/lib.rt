@@ -1,4 +1,4 @@
-// Piles of boards and layers: what a pile does to the memory lent to it, proved, and runs of calls with the traces and answers expected.
+//! Piles of boards and layers: what a pile does to the memory lent to it, proved, and runs of calls with the traces and answers expected.
 #![tactic(auto)]
 
 ghost use Rattle.std.specs.Prelude.{◌≡◌, length};
@@ -8,7 +8,7 @@ use pair::Pair;
 use reserve::Reserve;
 use resource::resource::Resource;
 use row_banks::banks::RowBanks;
-use sets::way_set::WaySet;
+use sets::number_set::WaySet;
 use way_cache::cache::WayCache;
 
 // A pile over the memory runs task 3 on its way 0, at line 8, and scrubs the way once; the memory goes back.
@@ -34,7 +34,7 @@ fn wipe_slice(memory: &mut [u8])
     let _back = through_pile(memory);
 }
 
-// What that leaves of the lender's memory: the first block of way 2 is empty, and all else is as it was.
+/// What that leaves of the lender's memory: the first block of way 2 is empty, and all else is as it was.
 pub fn wipe_through_pile(memory: &mut [u8; 256])
     ensures { Wiped memory.old 64 16 memory.new }
 {
@@ -49,10 +49,11 @@ mod tests {
     use resource::until::{scrub_every_way, scrub_until_done};
     use row_banks::bank::Bank;
     use row_banks::banks::RowBanks;
-    use sets::way_set::WaySet;
+    use sets::number_set::WaySet;
     use way_cache::cache::WayCache;
 
     // Scrubs the way four times; a digit for each call is 1 where it was done.
+    // Digits, and no `[Progress; 4]`: what the tests expect is one number, which shows the four at a glance.
     fn four_scrubs<R: Resource>(r: &mut R, way: u8) -> u32 {
         let mut answers = 0u32;
         for _ in 0..4u8 {

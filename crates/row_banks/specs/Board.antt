@@ -1,6 +1,6 @@
 -- What the row banks mean as a resource.
 use Rattle.std.specs.Prelude.{◌≡◌, ℕ, ◌/◌, true, cond, ◌&&◌, ◌==◌, nat_lt, slice_index_or}
-use Rattle.sets.specs.declared.way_set.WaySet.{WaySet}
+use Rattle.sets.specs.Sets.{WaySet}
 use Rattle.resource.specs.declared.answer.Progress.{Progress}
 use Rattle.resource.specs.Answers.{is_done}
 use Rattle.resource.specs.Seen.{Seen, touched}

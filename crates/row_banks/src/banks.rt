@@ -1,21 +1,23 @@
-// The row banks as a resource.
-ghost use Rattle.std.specs.Prelude.{◌≡◌, ℕ, ◌&&◌, if◌then◌else◌, ◌==◌, nat_lt};
-ghost use Rattle.row_banks.specs.declared.bank.Bank.TheVariants.{Closed};
-ghost use Rattle.row_banks.specs.Board.{bank_at, banks_meaning};
+//! The row banks as a resource.
+ghost use Rattle.std.specs.Prelude.{◌≡◌, ℕ, ◌/◌, if◌then◌else◌};
+ghost use Rattle.resource.specs.Seen.{touched};
+ghost use Rattle.row_banks.specs.declared.bank.Bank.TheVariants.{Closed, Open};
+ghost use Rattle.row_banks.specs.Board.{bank_at, banks_seen, banks_meaning, Opens};
 
 use crate::bank::Bank;
 use resource::answer::Progress;
 use resource::resource::Resource;
-use sets::way_set::WaySet;
+use sets::number_set::WaySet;
+use std::array;
 
-// The eight banks, one for each way.
+/// The eight banks, one for each way.
 #[derive(Drop)]
 pub struct RowBanks {
     banks: [Bank; 8],
 }
 
 impl RowBanks {
-    // All banks closed.
+    /// All banks closed.
     pub fn closed() -> RowBanks
         ensures { (w : ℕ) → bank_at result w ≡ Closed }
     {
@@ -24,25 +26,37 @@ impl RowBanks {
         }
     }
 
-    // The bank of a way; past the last way there is nothing but a closed one.
+    /// The bank of a way; past the last way there is nothing but a closed one.
     pub fn bank(&self, way: u8) -> Bank
         ensures { result ≡ bank_at self.now way }
     {
-        if way < 8 {
-            self.banks[way as usize]
+        self.banks
+            .get(way as usize)
+            .copied()
+            .unwrap_or(Bank::Closed)
+    }
+
+    // The bank of a way after a run call. `from_fn` tells a usize; below 8 the cast is the number itself.
+    // The slow board has its own: each makes a value of its own type, and only the guard would be shared.
+    fn bank_after_run(&self, way: usize, task: u8, ways: WaySet, address: u32) -> Bank
+        ensures { let touches = touched (banks_seen self.now) task ways way in
+            result ≡ (if touches then Open (address / 1024) task else bank_at self.now way) }
+    {
+        let row = address / 1024;
+        if task < 16 && way < 8 && ways.contains(way as u8) {
+            Bank::Open { row, owner: task }
         } else {
-            Bank::Closed
+            self.banks.get(way).copied().unwrap_or(Bank::Closed)
         }
     }
 
-    // Puts the bank of one way into this state.
-    fn put(&mut self, way: u8, bank: Bank)
-        ensures { (w : ℕ) → bank_at self.new w ≡ (if nat_lt w 8 && w == way then bank else bank_at self.old w) }
+    // The board after a run call.
+    fn after_run(&self, task: u8, ways: WaySet, address: u32) -> RowBanks
+        ensures { Opens self.now task ways address result }
     {
-        if way >= 8 {
-            return;
+        RowBanks {
+            banks: array::from_fn(|way| self.bank_after_run(way, task, ways, address)),
         }
-        self.banks[way as usize] = bank;
     }
 }
 
@@ -62,18 +76,13 @@ impl Resource for RowBanks {
     }
 
     fn run(&mut self, task: u8, ways: WaySet, address: u32) {
-        if task < 16 {
-            let row = address / 1024;
-            for way in 0..8u8 {
-                if ways.contains(way) {
-                    self.put(way, Bank::Open { row, owner: task });
-                }
-            }
-        }
+        *self = self.after_run(task, ways, address);
     }
 
     fn scrub(&mut self, way: u8) -> Progress {
-        self.put(way, Bank::Closed);
+        if way < 8 {
+            self.banks[way as usize] = Bank::Closed;
+        }
         Progress::Done
     }
 }

@@ -1,24 +1,24 @@
 -- What the board means as a resource.
 use Rattle.std.specs.Prelude.{◌≡◌, ℕ, ◌+◌, cond, ◌&&◌, ◌==◌, nat_lt, slice_index_or}
-use Rattle.sets.specs.declared.way_set.WaySet.{WaySet}
+use Rattle.sets.specs.Sets.{WaySet}
 use Rattle.resource.specs.declared.answer.Progress.{Progress}
 use Rattle.resource.specs.Answers.{is_done}
 use Rattle.resource.specs.Seen.{Seen, touched}
 use Rattle.resource.specs.Meaning.{Meaning}
 use Rattle.slow_board.specs.declared.slot.Slot.{Slot}
 use Rattle.slow_board.specs.declared.board.SlowBoard.{SlowBoard}
-use Rattle.slow_board.specs.Slots.{fresh, entered, calls, lessened}
+use Rattle.slow_board.specs.Slots.{fresh, entered, owned_by, calls, lessened}
 
 -- way w; past the last there is only a clean one
 abbrev pub slot_at : SlowBoard → ℕ → Slot
-slot_at s w = cond (nat_lt w 8) (slice_index_or s.slots w (record { extra = 0; more = 0; owner = 0 })) (fresh 0)
+slot_at s w = cond (nat_lt w 8) (slice_index_or s.slots w (fresh 0)) (fresh 0)
 
 -- eight ways; each holds a trace of its owner
 abbrev pub board_seen : SlowBoard → Seen
 board_seen s = record {
   ways = 8;
   cost = λ w. cond (nat_lt w 8) ((slot_at s w).extra + 1) 0;
-  traces = λ w k. nat_lt k 16 && ((slot_at s w).owner == k);
+  traces = λ w k. nat_lt k 16 && owned_by (slot_at s w).owner k;
   left = λ w. calls (slot_at s w) + 1;
 }
 

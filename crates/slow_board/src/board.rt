@@ -1,20 +1,23 @@
-// The board as a resource.
+//! The board as a resource.
 ghost use Rattle.std.specs.Prelude.{◌≡◌, ℕ, ◌&&◌, if◌then◌else◌, ◌==◌, nat_lt};
-ghost use Rattle.slow_board.specs.Slots.{fresh};
-ghost use Rattle.slow_board.specs.Board.{slot_at, board_meaning};
+ghost use Rattle.resource.specs.Seen.{touched};
+ghost use Rattle.slow_board.specs.Slots.{fresh, entered};
+ghost use Rattle.slow_board.specs.Board.{slot_at, board_seen, board_meaning};
 
 use crate::slot::Slot;
 use resource::answer::Progress;
 use resource::resource::Resource;
-use sets::way_set::WaySet;
+use sets::number_set::WaySet;
+use std::array;
 
+/// The eight ways of the board, one slot for each.
 #[derive(Drop)]
 pub struct SlowBoard {
     slots: [Slot; 8],
 }
 
 impl SlowBoard {
-    // All ways clean, each with a scrub of one call and so many further ones.
+    /// All ways clean, each with a scrub of one call and so many further ones.
     pub fn of_even_costs(extra: u16) -> SlowBoard
         ensures { (w : ℕ) → slot_at result w ≡ (if nat_lt w 8 then fresh extra else fresh 0) }
     {
@@ -23,27 +26,54 @@ impl SlowBoard {
         }
     }
 
-    // Makes one way a clean one, with a scrub of one call and so many further ones.
+    /// Makes one way a clean one, with a scrub of one call and so many further ones.
     pub fn set_cost(&mut self, way: u8, extra: u16)
-        ensures { (w : ℕ) → slot_at self.new w ≡ (if nat_lt w 8 && w == way then fresh extra else slot_at self.old w) }
+        ensures { let this = λ (w : ℕ). nat_lt w 8 && w == way in
+            (w : ℕ) → slot_at self.new w ≡ (if this w then fresh extra else slot_at self.old w) }
     {
         self.put(way, Slot::clean(extra));
     }
 
-    // The state of a way; past the last there is only a clean one.
+    // The state of a way; past the last there is only a clean one. What this shares with the row banks' `bank` is std's `get`.
     fn slot(&self, way: u8) -> Slot
         ensures { result ≡ slot_at self.now way }
     {
-        if way < 8 {
-            self.slots[way as usize]
+        self.slots
+            .get(way as usize)
+            .copied()
+            .unwrap_or(Slot::clean(0))
+    }
+
+    // The state of a way after a run call. `from_fn` tells a usize; below 8 the cast is the number itself.
+    // The row banks have their own: each makes a value of its own type, and only the guard would be shared.
+    fn slot_after_run(&self, way: usize, task: u8, ways: WaySet) -> Slot
+        ensures { let touches = touched (board_seen self.now) task ways way in
+            let old = slot_at self.now way in
+            result ≡ (if touches then entered old task else old) }
+    {
+        let slot = self.slots.get(way).copied().unwrap_or(Slot::clean(0));
+        if task < 16 && way < 8 && ways.contains(way as u8) {
+            slot.run_by(task)
         } else {
-            Slot::clean(0)
+            slot
+        }
+    }
+
+    // The board after a run call.
+    fn after_run(&self, task: u8, ways: WaySet) -> SlowBoard
+        ensures { let touches = touched (board_seen self.now) task ways in
+            let old = slot_at self.now in
+            (w : ℕ) → slot_at result w ≡ (if touches w then entered (old w) task else old w) }
+    {
+        SlowBoard {
+            slots: array::from_fn(|way| self.slot_after_run(way, task, ways)),
         }
     }
 
     // Puts one way into this state.
     fn put(&mut self, way: u8, slot: Slot)
-        ensures { (w : ℕ) → slot_at self.new w ≡ (if nat_lt w 8 && w == way then slot else slot_at self.old w) }
+        ensures { let this = λ (w : ℕ). nat_lt w 8 && w == way in
+            (w : ℕ) → slot_at self.new w ≡ (if this w then slot else slot_at self.old w) }
     {
         if way < 8 {
             self.slots[way as usize] = slot;
@@ -71,14 +101,7 @@ impl Resource for SlowBoard {
     }
 
     fn run(&mut self, task: u8, ways: WaySet, address: u32) {
-        if task < 16 {
-            for way in 0..8u8 {
-                if ways.contains(way) {
-                    let after = self.slot(way).run_by(task);
-                    self.put(way, after);
-                }
-            }
-        }
+        *self = self.after_run(task, ways);
     }
 
     fn scrub(&mut self, way: u8) -> Progress {

@@ -1,54 +1,54 @@
-// One way of the board.
-ghost use Rattle.std.specs.Prelude.{◌≡◌, nat_le};
-ghost use Rattle.slow_board.specs.Slots.{fresh, entered, calls, lessened};
+//! One way of the board.
+ghost use Rattle.std.specs.Prelude.{◌≡◌};
+ghost use Rattle.slow_board.specs.Slots.{fresh, entered, bare, calls, lessened};
 
-// A scrub takes one call and `extra` further ones; `more` of those are still to come. The owner is the task whose trace the way holds;
-// past 15 there is none.
+/// A scrub takes one call and `extra` further ones; `more` of those are still to come. The owner is the task whose trace the way holds.
 #[derive(Clone, Copy)]
 pub struct Slot {
     pub extra: u16,
     pub more: u16,
-    pub owner: u8,
+    pub owner: Option<u8>,
 }
 
 impl Slot {
-    // A way without a trace.
+    /// A way without a trace.
     pub fn clean(extra: u16) -> Slot
         ensures { result ≡ fresh extra }
     {
         Slot {
             extra,
             more: extra,
-            owner: 255,
+            owner: None,
         }
     }
 
-    // The way once the task has run there.
+    /// The way once the task has run there.
     pub fn run_by(self, task: u8) -> Slot
         ensures { result ≡ entered self task }
     {
         Slot {
-            extra: self.extra,
             more: self.extra,
-            owner: task,
+            owner: Some(task),
+            ..self
         }
     }
 
-    // Does the way hold no trace?
+    // The guard on owners stays: `run_by` takes any number, and a ghost field would ask something of its callers.
+    /// Does the way hold no trace? No call enters it for an owner past 15; such a one would leave none.
     pub fn is_bare(self) -> bool
-        ensures { result ≡ nat_le 16 self.owner }
+        ensures { result ≡ bare self }
     {
-        self.owner >= 16
+        self.owner.is_none_or(|owner| owner >= 16)
     }
 
-    // How many scrub calls follow the next one until the way is done.
+    /// How many scrub calls follow the next one until the way is done.
     pub fn calls_after_next(self) -> u16
         ensures { result ≡ calls self }
     {
         self.more.min(self.extra)
     }
 
-    // The way after one scrub call.
+    /// The way after one scrub call.
     pub fn scrubbed(self) -> Slot
         ensures { result ≡ lessened self }
     {
@@ -57,9 +57,8 @@ impl Slot {
             Slot::clean(self.extra)
         } else {
             Slot {
-                extra: self.extra,
                 more: calls - 1,
-                owner: self.owner,
+                ..self
             }
         }
     }

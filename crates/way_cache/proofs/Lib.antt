@@ -1,3 +1,2 @@
 pub mod Traces
 pub mod Calls
-pub mod Turn

@@ -1,6 +1,6 @@
 -- What one call leaves of the marks.
 use Rattle.std.specs.Prelude.{◌≡◌, ℕ, ◌/◌, ◌%◌, cond, not, ◌&&◌, List, length, ◌==◌, nat_lt, slice_index}
-use Rattle.sets.specs.declared.way_set.WaySet.{WaySet}
+use Rattle.sets.specs.Sets.{WaySet}
 use Rattle.resource.specs.declared.answer.Progress.{Progress}
 use Rattle.resource.specs.Answers.{is_done}
 use Rattle.resource.specs.Seen.{touched}

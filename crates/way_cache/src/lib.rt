@@ -1,4 +1,4 @@
-// The way cache: a board over lent memory of one mark a byte, which says what task used a line last.
+//! The way cache: a board over lent memory of one mark a byte, which says what task used a line last.
 #![tactic(auto)]
 
 pub mod cache;

@@ -1,5 +1,5 @@
 use Rattle.std.proofs.Common.{◌≡◌, ℕ, ◌&&◌, ltb, ap, ◌∙◌}
-use Rattle.sets.specs.Sets.{names}
+use Rattle.sets.specs.Sets.{has}
 use Rattle.pair.specs.Both.{shared_ways}
 use Rattle.pair.proofs.Both.{both_run}
 use Rattle.pair.proofs.PairResource.run.Goals as goal
@@ -14,7 +14,7 @@ returns g c =
     let y = n.seen s.second in
     let ways = c.args.ways in
     let shared = c.below-both.result in
-    let named : (w : ℕ) → names shared w ≡ (names ways w && ltb w (shared_ways x y)) = λ w. c.below-both.ensures w ∙ ap (λ (k : ℕ). names ways w && ltb w k) c.shared.ensures.count in
+    let named : (w : ℕ) → has shared w ≡ (has ways w && ltb w (shared_ways x y)) = λ w. c.below-both.ensures.members w ∙ ap (λ (k : ℕ). has ways w && ltb w k) c.shared.ensures.count in
     let h = c.run_both.ensures in
     record {
       said = record { shared = shared; named = named; first = h.first; second = h.second };
