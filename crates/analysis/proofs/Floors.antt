@@ -1,27 +1,30 @@
 -- What holds of the floor that a table makes.
-use Rattle.std.proofs.Common.{◌≡◌, ℕ, zero, suc, ◌+◌, ◌-◌, ◌<◌, ◌≤◌, Bool, true, false, List, [], ◌∷◌, length, is_ok, Ok, Err, sym, refl, ap, subst, ⊎_elim, arith}
+use Rattle.std.proofs.Common.{◌≡◌, ℕ, zero, suc, ◌+◌, ◌-◌, ◌<◌, ◌≤◌, Bool, true, false, List, [], ◌∷◌, length, is_ok, Ok, Err, Result, sym, refl, ap, subst, ⊎_elim, arith}
 use mathlib.Core.Logic.{∥∥₁_elim}
 use native.Mathlib.Bridge.{le_prop}
 use native.Mathlib.Nat.{ℕ_set}
 use Rattle.std.proofs.lemmas.Bool.Decides.{nat_tests}
-use Rattle.sets.specs.Sets.{names}
+use Rattle.sets.specs.Sets.{has}
 use Rattle.sets.proofs.Below.{bool_tells}
-use Rattle.sets.proofs.Members.{member-zero}
+use Rattle.std.specs.Result.{result_unwrap_or}
 use Rattle.taskset.specs.declared.fault.DraftFault.{DraftFault}
+use Rattle.taskset.specs.declared.fault.DraftFault.TheVariants.{Unlisted}
 use Rattle.taskset.specs.declared.task.Figures.{Figures}
 use Rattle.taskset.specs.declared.task.Task.{Task}
-use Rattle.taskset.specs.Figures.{all_lawful, lawful}
-use Rattle.taskset.specs.Table.{Table, Lawful, both_listed, count, nothing, pair_asked, task_at, figures_of}
+use Rattle.taskset.specs.Figures.{is_whole, all_lawful, lawful}
+use Rattle.taskset.specs.Table.{Table, IsLawful, both_listed, count, nothing, pair_asked, task_at, figures_of, noleak}
+use Rattle.analysis.specs.declared.priced.PricedDraft.{PricedDraft}
+use Rattle.analysis.specs.Costs.{cost_of}
+use Rattle.analysis.specs.PricedFloor.{priced_floor}
 use Rattle.analysis.specs.Floor.{Floor}
 use Rattle.analysis.specs.Charges.{scrub_cost}
 use Rattle.analysis.specs.Bounds.{IsLeast, IsStart, IsBound, IsBoundOf, Accepted, split_demand, whole_demand}
-use Rattle.analysis.specs.FloorOf.{floor_of, figures_at, is_whole, FiguresOf}
-use Rattle.analysis.specs.Priced.{Priced}
+use Rattle.analysis.specs.FloorOf.{floor_of, figures_at, no_figures, FiguresOf}
 
 -- a table without a task
-pub tasks-none : (t : Table) (cost : ℕ → ℕ) → t ≡ nothing → (floor_of t cost).tasks ≡ 0
+pub tasks-none : (p : PricedDraft) → p.draft ≡ nothing → (priced_floor p).tasks ≡ 0
 unfolding floor_of
-tasks-none t cost e = ap count e
+tasks-none p e = ap count e
 
 -- the figures of a task are those of the floor
 pub figures-at : (ts : List Task) (i : ℕ) (x : Figures) → figures_of (task_at ts i) ≡ Ok x → (i < length ts) × (figures_at ts i ≡ x)
@@ -45,7 +48,7 @@ figures-of t cost i x e =
       budget = ap (λ (y : Figures). y.budget) (sym h.1);
       deadline = ap (λ (y : Figures). y.deadline) (sym h.1);
       whole = ap (λ (y : Figures). is_whole y.kind) (sym h.1);
-      uses = λ w. ap (λ (y : Figures). names y.ways w) (sym h.1);
+      uses = λ w. ap (λ (y : Figures). has y.ways w) (sym h.1);
     }
 
 -- the figures of a listed task are in their ranges
@@ -63,7 +66,7 @@ pub record InRange (f : Floor) (i : ℕ) : Type 0 where
   pub due : 1 ≤ f.deadline i
   pub within : f.deadline i ≤ f.period i
 
-pub in-range : (t : Table) → Lawful t → (cost : ℕ → ℕ) (i : ℕ) → i < count t → InRange (floor_of t cost) i
+pub in-range : (t : Table) → IsLawful t → (cost : ℕ → ℕ) (i : ℕ) → i < count t → InRange (floor_of t cost) i
 unfolding floor_of lawful
 in-range t ok cost i l =
     let h = lawful-at t.tasks ok.figures i l in
@@ -76,6 +79,15 @@ in-range t ok cost i l =
       due = grind (arith, nat_tests);
       within = grind (arith, nat_tests);
     }
+
+-- the same of a priced draft
+pub listed-range : (p : PricedDraft) (i : ℕ) → i < (priced_floor p).tasks → InRange (priced_floor p) i
+unfolding floor_of
+listed-range p i l = in-range p.draft p.lawful (cost_of p.costs) i l
+
+pub sixteen : (p : PricedDraft) → (priced_floor p).tasks ≤ 16
+unfolding floor_of
+sixteen p = p.lawful.few
 
 -- a bound of a whole task, and of a split one
 pub bound-whole : (f : Floor) (i b : ℕ) → f.whole i ≡ true → IsBound f i b → IsBoundOf f i true b
@@ -118,23 +130,23 @@ accepted-kept f bound a i l = record {
   met = ∥∥₁_elim a le_prop (λ h. (h i l).met);
 }
 
-pub priced-kept : (f : Floor) → ∥ Priced f ∥₁ → Priced f
-priced-kept f a i w l u = (∥∥₁_elim a le_prop (λ h. (h i w l u).0), ∥∥₁_elim a le_prop (λ h. (h i w l u).1))
+-- an answer, or figures that are all 0, are those of the number
+pub figures-or-none : (ts : List Task) (i : ℕ) → result_unwrap_or (figures_of (task_at ts i)) no_figures ≡ figures_at ts i
+unfolding figures_at
+figures-or-none [] i = refl
+figures-or-none (t ∷ ts) zero = refl
+figures-or-none (t ∷ ts) (suc i) = figures-or-none ts i
 
--- no figures, no ways
-pub uses-none : (ts : List Task) (i w : ℕ) (e : DraftFault) → figures_of (task_at ts i) ≡ Err e → names (figures_at ts i).ways w ≡ false
-unfolding figures_at names
-uses-none [] i w e h = let z = member-zero w in grind (arith, z)
-uses-none (t ∷ ts) zero w e h = let z : ◌≡◌ {A = ℕ} 0 1 = cc in absurd (omega arith)
-uses-none (t ∷ ts) (suc i) w e h = uses-none ts i w e h
-
--- where no answer can be had, there is no pair
-pub pair-none : (t : Table) → Lawful t → (from to : ℕ) (e : DraftFault) → pair_asked t from to ≡ Err e → t.noleak from to ≡ false
-pair-none t ok from to e h =
+-- nor is there a pair
+pub pair-or-none : (t : Table) → IsLawful t → (from to : ℕ) (r : Result Bool DraftFault) → r ≡ pair_asked t from to → result_unwrap_or r false ≡ noleak t from to
+pair-or-none t ok from to r h =
     ⊎_elim
-    (λ p. let l = ok.listed from to p in let b : both_listed t from to ≡ true = grind (arith, nat_tests, l.0, l.1) in let z : ◌≡◌ {A = ℕ} 0 1 = cc (h, b) in absurd (omega arith))
-    (λ p. p)
-    (bool_tells (t.noleak from to))
+    (λ p. let e : r ≡ Ok (noleak t from to) = grind (arith, h, p) in rw e)
+    (λ p.
+    let e : r ≡ Err Unlisted = grind (arith, h, p) in
+    let none : noleak t from to ≡ false = ⊎_elim (λ s. let l = ok.listed from to s in let b : both_listed t from to ≡ true = grind (arith, nat_tests, l.0, l.1) in cc) (λ s. s) (bool_tells (noleak t from to)) in
+    rw e (sym none))
+    (bool_tells (both_listed t from to))
 
 -- a demand has one least number, and a task one bound
 least-unique : (d : ℕ → ℕ) (low x y : ℕ) → IsLeast d low x → IsLeast d low y → x ≡ y

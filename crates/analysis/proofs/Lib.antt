@@ -1,4 +1,8 @@
+pub mod FromFn
+pub mod Chains
+pub mod Places
 pub mod Floors
+pub mod Limits
 pub mod Demands
 pub mod Verdicts
 pub mod Sheets

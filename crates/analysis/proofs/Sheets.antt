@@ -1,43 +1,48 @@
--- What a sheet's rows say.
-use mathlib.Core.Bool.{Bool-set}
-use Rattle.std.proofs.Common.{◌≡◌, ℕ, ◌<◌, ◌≤◌, List}
-use mathlib.Core.Logic.{∥∥₁_elim}
-use native.Mathlib.Bridge.{le_prop}
-use native.Mathlib.Nat.{ℕ_set}
-use Rattle.taskset.proofs.Tables.{lawful-table}
+-- What a row says.
+use Rattle.std.proofs.Common.{◌≡◌, ℕ, ◌≤◌, ap, arith}
+use Rattle.taskset.specs.declared.task.Figures.{Figures}
+use Rattle.taskset.specs.Figures.{is_whole}
+use Rattle.analysis.specs.declared.priced.PricedDraft.{PricedDraft}
 use Rattle.analysis.specs.declared.row.Row.{Row}
-use Rattle.analysis.specs.declared.sheet.Sheet.{Sheet}
+use Rattle.analysis.specs.Charges.{dearest, guard_cost, scrub_cost}
 use Rattle.analysis.specs.Floor.{Floor}
-use Rattle.analysis.specs.FloorOf.{floor_of}
-use Rattle.analysis.specs.Rows.{RowOf, Rows, row_at}
-use Rattle.analysis.specs.Sheets.{sheet_floor}
+use Rattle.analysis.specs.FloorOf.{figures_at, floor_of}
+use Rattle.analysis.specs.PricedFloor.{priced_floor}
+use Rattle.analysis.specs.Rows.{row_of}
+use Rattle.analysis.specs.Sums.{sum_below, most_below}
+use Rattle.analysis.proofs.Limits.{budget-few, dearest-few, scrub-few}
 
--- each fact of a row has one proof at most
-rows-kept : (f : Floor) (rows : List Row) → ∥ Rows f rows ∥₁ → Rows f rows
-rows-kept f rows a i l = record {
-  period = ∥∥₁_elim a (ℕ_set _ _) (λ h. (h i l).period);
-  budget = ∥∥₁_elim a (ℕ_set _ _) (λ h. (h i l).budget);
-  deadline = ∥∥₁_elim a (ℕ_set _ _) (λ h. (h i l).deadline);
-  whole = ∥∥₁_elim a (Bool-set _ _) (λ h. (h i l).whole);
-  scrub = ∥∥₁_elim a (ℕ_set _ _) (λ h. (h i l).scrub);
-  dearest = ∥∥₁_elim a (ℕ_set _ _) (λ h. (h i l).dearest);
-  some = ∥∥₁_elim a le_prop (λ h. (h i l).some);
-  work = ∥∥₁_elim a le_prop (λ h. (h i l).work);
-  longest = ∥∥₁_elim a le_prop (λ h. (h i l).longest);
-  most = ∥∥₁_elim a le_prop (λ h. (h i l).most);
-  top = ∥∥₁_elim a le_prop (λ h. (h i l).top);
-}
+-- the row of task i, and its limits, by which no sum of its numbers overflows
+pub record RowOf (f : Floor) (i : ℕ) (row : Row) : Type 0 where
+  pub period : row.figures.period ≡ f.period i
+  pub budget : row.figures.budget ≡ f.budget i
+  pub deadline : row.figures.deadline ≡ f.deadline i
+  pub whole : is_whole row.figures.kind ≡ f.whole i
+  pub scrub : row.scrub ≡ scrub_cost f i
+  pub dearest : row.dearest ≡ dearest f i
+  pub budget_few : row.figures.budget ≤ 60000
+  pub scrub_few : row.scrub ≤ 524280
+  pub dearest_few : row.dearest ≤ 65535
 
--- the row of a listed task
-pub row_of : (s : Sheet) (i : ℕ) → i < (sheet_floor s).tasks → RowOf (sheet_floor s) i (row_at s.rows i)
-row_of s i l = rows-kept (sheet_floor s) s.rows s.told i l
-
--- there are as many tasks as the sheet counts
-pub counted : (s : Sheet) → s.count ≡ (sheet_floor s).tasks
+pub row-facts : (p : PricedDraft) (i : ℕ) (r : Row) → r ≡ row_of p i → RowOf (priced_floor p) i r
 unfolding floor_of
-counted s = s.counted
+row-facts p i r e =
+    let b : r.figures.budget ≡ (priced_floor p).budget i = ap (λ (x : Row). x.figures.budget) e in
+    let s : r.scrub ≡ scrub_cost (priced_floor p) i = ap (λ (x : Row). x.scrub) e in
+    let d : r.dearest ≡ dearest (priced_floor p) i = ap (λ (x : Row). x.dearest) e in
+    record {
+      period = ap (λ (x : Row). x.figures.period) e;
+      budget = b;
+      deadline = ap (λ (x : Row). x.figures.deadline) e;
+      whole = ap (λ (x : Row). is_whole x.figures.kind) e;
+      scrub = s;
+      dearest = d;
+      budget_few = omega (arith, b, budget-few p i);
+      scrub_few = omega (arith, s, scrub-few p i);
+      dearest_few = omega (arith, d, dearest-few p i);
+    }
 
--- and at most sixteen
-pub sixteen : (s : Sheet) → (sheet_floor s).tasks ≤ 16
-unfolding floor_of
-sixteen s = (lawful-table s.draft).few
+-- the row, by its parts: the sum and the largest of the guard costs of eight ways
+pub row-is : (p : PricedDraft) (i : ℕ) (x : Figures) (s d : ℕ) → x ≡ figures_at p.draft.tasks i → s ≡ sum_below 8 (guard_cost (priced_floor p) i) → d ≡ most_below 8 (guard_cost (priced_floor p) i) → record { figures = x; scrub = s; dearest = d } ≡ row_of p i
+unfolding scrub_cost dearest floor_of
+row-is p i x s d f a b = cc

@@ -1,5 +1,5 @@
 -- What an analysis leaves.
-use Rattle.std.specs.Prelude.{◌≡◌, ℕ, ◌<◌, ◌≤◌, List, length, Ok, Err, Result, slice_index}
+use Rattle.std.specs.Prelude.{◌≡◌, ℕ, List, Ok, Err, Result}
 use Rattle.resource.specs.Answers.{told16}
 use Rattle.resource.specs.Seen.{Seen}
 use Rattle.taskset.specs.Table.{Table}
@@ -8,6 +8,7 @@ use Rattle.analysis.specs.declared.plan.Plan.{Plan}
 use Rattle.analysis.specs.Bounds.{Accepted}
 use Rattle.analysis.specs.PlanOf.{plan_table, plan_cost, plan_bound, EmptyPlan}
 use Rattle.analysis.specs.Verdict.{asked_floor}
+use Rattle.analysis.specs.Written.{Written}
 
 -- the plan of a table on a resource: its draft is the table's, its costs are those answered, and its bounds the tasks' bounds
 pub record PlanFor (t : Table) (x : Seen) (p : Plan) : Type 0 where
@@ -19,12 +20,6 @@ pub record PlanFor (t : Table) (x : Seen) (p : Plan) : Type 0 where
 abbrev pub PlanAfter : Table → Seen → Result (Unit {0}) AnalysisFault → Plan → Type 0
 PlanAfter t x (Ok u) p = PlanFor t x p
 PlanAfter t x (Err e) p = EmptyPlan p
-
--- the first n places of a list now hold these values, and the later ones what they held before
-pub record Written (n : ℕ) (value : ℕ → ℕ) (before after : List ℕ) : Type 0 where
-  pub same : length after ≡ length before
-  pub first : (k : ℕ) → k < n → slice_index after k ≡ value k
-  pub later : (k : ℕ) → n ≤ k → slice_index after k ≡ slice_index before k
 
 -- a list after an analysis: as it was where that refused
 abbrev pub ListAfter : Result (Unit {0}) AnalysisFault → ℕ → (ℕ → ℕ) → List ℕ → List ℕ → Type 0

@@ -4,9 +4,13 @@ use Rattle.sets.specs.Below.{some_below}
 use Rattle.analysis.specs.Sums.{sum_below, most_below}
 use Rattle.analysis.specs.Floor.{Floor}
 
+-- task k may leave a trace on way w that another task i must not see
+abbrev pub threatens : Floor → ℕ → ℕ → ℕ → Bool
+threatens f k i w = not (k == i) && (f.uses k w && f.noleak k i)
+
 -- Way w of task i is guarded: another task uses it too, and must not leak to i. Only guarded ways are ever scrubbed for i.
 unfoldable pub guarded : Floor → ℕ → ℕ → Bool
-guarded f i w = f.uses i w && some_below f.tasks (λ k. not (k == i) && (f.uses k w && f.noleak k i))
+guarded f i w = f.uses i w && some_below f.tasks (λ k. threatens f k i w)
 
 -- what scrubbing way w for task i costs, if it is ever scrubbed for it
 unfoldable pub guard_cost : Floor → ℕ → ℕ → ℕ
@@ -16,9 +20,13 @@ guard_cost f i w = cond (guarded f i w) (f.cost w) 0
 unfoldable pub scrub_cost : Floor → ℕ → ℕ
 scrub_cost f i = sum_below f.ways (guard_cost f i)
 
+-- what task k has to be scrubbed for again where task j preempts it: nothing where k is whole or has the higher priority
+abbrev pub resumption : Floor → ℕ → ℕ → ℕ
+resumption f j k = cond (nat_lt j k && not (f.whole k)) (scrub_cost f k) 0
+
 -- the largest scrub cost of a split task k with j < k < m: what one preemption by j may have to be paid again when such a task resumes
 unfoldable pub resume_below : Floor → ℕ → ℕ → ℕ
-resume_below f j m = most_below m (λ k. cond (nat_lt j k && not (f.whole k)) (scrub_cost f k) 0)
+resume_below f j m = most_below m (resumption f j)
 
 -- R(j,i): the same over the split tasks k with j < k ≤ i
 unfoldable pub resume_cost : Floor → ℕ → ℕ → ℕ
@@ -42,9 +50,13 @@ hold_cost f l = cond (f.whole l) (scrub_cost f l + f.budget l - 1) (dearest f l 
 abbrev pub may_block : ℕ → ℕ → Bool
 may_block i l = nat_lt i l || (i == l && nat_lt 0 i)
 
+-- how long task l may hold the core when a job of task i is announced
+abbrev pub block : Floor → ℕ → ℕ → ℕ
+block f i l = cond (may_block i l) (hold_cost f l) 0
+
 -- B(i): the longest that such a task may hold the core
 unfoldable pub blocking : Floor → ℕ → ℕ
-blocking f i = most_below f.tasks (λ l. cond (may_block i l) (hold_cost f l) 0)
+blocking f i = most_below f.tasks (block f i)
 
 -- the ticks of scrubbing that one job of task j brings into a run: its own scrubs, and those of the task that it makes resume
 unfoldable pub allowance : Floor → ℕ → ℕ

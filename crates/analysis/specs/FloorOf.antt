@@ -1,21 +1,20 @@
 -- The floor that a table of tasks and the costs of the ways make.
-use Rattle.std.specs.Prelude.{◌≡◌, ℕ, zero, suc, ◌<◌, Bool, true, false, List, [], ◌∷◌}
-use Rattle.sets.specs.Sets.{names}
+use Rattle.std.specs.Prelude.{◌≡◌, ℕ, zero, suc, ◌<◌, List, [], ◌∷◌}
+use Rattle.sets.specs.Sets.{has}
 use Rattle.taskset.specs.declared.task.Figures.{Figures}
-use Rattle.taskset.specs.declared.task.Kind.{Kind}
-use Rattle.taskset.specs.declared.task.Kind.TheVariants.{Split, Whole}
+use Rattle.taskset.specs.declared.task.Kind.TheVariants.{Split}
 use Rattle.taskset.specs.declared.task.Task.{Task}
-use Rattle.taskset.specs.Table.{Table, count}
+use Rattle.taskset.specs.Figures.{is_whole}
+use Rattle.taskset.specs.Table.{Table, count, noleak}
 use Rattle.analysis.specs.Floor.{Floor}
 
--- whether a kind is that of a task that cannot be preempted
-abbrev pub is_whole : Kind → Bool
-is_whole Split = false
-is_whole Whole = true
+-- figures that are all 0, without a way
+abbrev pub no_figures : Figures
+no_figures = record { period = 0; budget = 0; deadline = 0; ways = record { bits = 0 }; kind = Split }
 
--- the figures of the task of a number; all 0 where there is none
+-- the figures of the task of a number; those where there is none
 unfoldable pub figures_at : List Task → ℕ → Figures
-figures_at [] i = record { period = 0; budget = 0; deadline = 0; ways = record { bits = 0 }; kind = Split }
+figures_at [] i = no_figures
 figures_at (t ∷ ts) zero = t.figures
 figures_at (t ∷ ts) (suc i) = figures_at ts i
 
@@ -28,8 +27,8 @@ floor_of t cost = record {
   budget = λ i. (figures_at t.tasks i).budget;
   deadline = λ i. (figures_at t.tasks i).deadline;
   whole = λ i. is_whole (figures_at t.tasks i).kind;
-  uses = λ i w. names (figures_at t.tasks i).ways w;
-  noleak = t.noleak;
+  uses = λ i w. has (figures_at t.tasks i).ways w;
+  noleak = noleak t;
   cost = cost;
 }
 
@@ -40,4 +39,4 @@ pub record FiguresOf (f : Floor) (i : ℕ) (x : Figures) : Type 0 where
   pub budget : x.budget ≡ f.budget i
   pub deadline : x.deadline ≡ f.deadline i
   pub whole : is_whole x.kind ≡ f.whole i
-  pub uses : (w : ℕ) → names x.ways w ≡ f.uses i w
+  pub uses : (w : ℕ) → has x.ways w ≡ f.uses i w

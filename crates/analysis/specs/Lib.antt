@@ -6,12 +6,15 @@ pub mod Least
 pub mod FloorOf
 pub mod Costs
 pub mod Priced
+pub mod PricedFloor
 pub mod PlanOf
 pub mod Faults
 pub mod Verdict
+pub mod Written
 pub mod After
 pub mod Rows
 pub mod Sheets
+pub mod RivalIn
 pub mod Rivals
 pub mod Demands
 pub mod Rises

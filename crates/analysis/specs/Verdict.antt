@@ -1,6 +1,6 @@
 -- What the analysis answers.
-use Rattle.std.specs.Prelude.{◌≡◌, ℕ, ◌<◌, ◌≤◌, Bool, true, false, ◌&&◌, Ok, Err, Result, nat_le, nat_lt}
-use Rattle.sets.specs.Below.{some_below}
+use Rattle.std.specs.Prelude.{◌≡◌, ℕ, ◌<◌, ◌≤◌, Bool, ◌&&◌, Ok, Err, Result, nat_le, nat_lt}
+use Rattle.sets.specs.Below.{some_below, IsLowest, NoneBelow}
 use Rattle.resource.specs.Answers.{told16}
 use Rattle.resource.specs.Seen.{Seen}
 use Rattle.taskset.specs.Table.{Table}
@@ -22,16 +22,6 @@ strays f ways i = some_below f.ways (λ w. nat_le ways w && f.uses i w)
 -- way w costs over 1,000 calls, and some task uses it
 unfoldable pub dear : Floor → ℕ → Bool
 dear f w = nat_lt 1000 (f.cost w) && some_below f.tasks (λ i. f.uses i w)
-
--- no number below n passes the test
-abbrev pub NoneBelow : ℕ → (ℕ → Bool) → Type 0
-NoneBelow n test = (j : ℕ) → j < n → test j ≡ false
-
--- k is the lowest number below n that passes the test
-pub record IsFirst (n : ℕ) (test : ℕ → Bool) (k : ℕ) : Type 0 where
-  pub below : k < n
-  pub passes : test k ≡ true
-  pub lowest : NoneBelow k test
 
 -- task i has a bound within its deadline
 abbrev pub Bounded : Floor → ℕ → Type 0
@@ -61,8 +51,8 @@ pub record Ready (f : Floor) (ways room : ℕ) : Type 0 where
 -- when each refusal is given; a later one only where no earlier one is
 abbrev pub Refused : Floor → ℕ → ℕ → AnalysisFault → Type 0
 Refused f ways room NoTask = f.tasks ≡ 0
-Refused f ways room (NoWay task) = IsFirst f.tasks (strays f ways) task
-Refused f ways room (DearWay way) = (0 < f.tasks) × NoneBelow f.tasks (strays f ways) × IsFirst f.ways (dear f) way
+Refused f ways room (NoWay task) = IsLowest f.tasks (strays f ways) task
+Refused f ways room (DearWay way) = (0 < f.tasks) × NoneBelow f.tasks (strays f ways) × IsLowest f.ways (dear f) way
 Refused f ways room ShortList = (0 < f.tasks) × NoneBelow f.tasks (strays f ways) × NoneBelow f.ways (dear f) × (room < f.tasks)
 Refused f ways room (NoBound task) = Ready f ways room × FirstUnbounded f task
 

@@ -1,7 +1,6 @@
-// The verdict on a draft.
-ghost use Rattle.std.specs.Prelude.{◌-◌, min, length};
+//! The verdict on a draft.
+ghost use Rattle.std.specs.Prelude.{ℕ, ◌-◌, min, length};
 ghost use Rattle.taskset.specs.Table.{count as table_count};
-ghost use Rattle.taskset.specs.View.{table};
 ghost use Rattle.analysis.specs.After.{PlanAfter, ListAfter};
 ghost use Rattle.analysis.specs.PlanOf.{plan_bound};
 ghost use Rattle.analysis.specs.Verdict.{asked_floor, Verdict};
@@ -11,9 +10,10 @@ use crate::plan::Plan;
 use resource::resource::Resource;
 use taskset::draft::Draft;
 
-// Accepts a draft on a resource exactly where every task has a bound within its deadline: then the plan is the draft's, and the first
-// places of the two lists hold the tasks' bounds and slacks. A refusal leaves the plan empty and the lists as they were.
-// The resource is only asked.
+/// Accepts a draft on a resource exactly where every task has a bound within its deadline: then the plan is the draft's, and the first
+/// places of the two lists hold the tasks' bounds and slacks. A refusal leaves the plan empty and the lists as they were.
+/// The resource is only asked.
+// Two lists, and no list of pairs: commissioning hands in both, each of its own length.
 pub fn analyse<R: Resource>(
     draft: &Draft,
     resource: &R,
@@ -21,22 +21,21 @@ pub fn analyse<R: Resource>(
     slacks: &mut [u32],
     plan: &mut Plan,
 ) -> Result<(), AnalysisFault>
-    ensures verdict { Verdict (asked_floor (table draft.now) (R.Resource.meaning.seen resource.now)) (R.Resource.meaning.seen resource.now).ways (min (length bounds.old) (length slacks.old)) result }
-    ensures later { PlanAfter (table draft.now) (R.Resource.meaning.seen resource.now) result plan.new }
-    ensures bound_list { ListAfter result (table_count (table draft.now)) (plan_bound plan.new) bounds.old bounds.new }
-    ensures slack_list { ListAfter result (table_count (table draft.now)) (λ i. (asked_floor (table draft.now) (R.Resource.meaning.seen resource.now)).deadline i - plan_bound plan.new i) slacks.old slacks.new }
+    ensures verdict { let x = R.meaning.seen resource.now in
+        let room = min (length bounds.old) (length slacks.old) in
+        Verdict (asked_floor draft.now x) x.ways room result }
+    ensures later { PlanAfter draft.now (R.meaning.seen resource.now) result plan.new }
+    ensures bound_list { let n = table_count draft.now in
+        ListAfter result n (plan_bound plan.new) bounds.old bounds.new }
+    ensures slack_list { let f = asked_floor draft.now (R.meaning.seen resource.now) in
+        let slack = λ (i : ℕ). f.deadline i - plan_bound plan.new i in
+        ListAfter result (table_count draft.now) slack slacks.old slacks.new }
 {
     let room = bounds.len().min(slacks.len());
-    match Plan::made(draft, resource, room) {
-        Ok(made) => {
-            made.write_bounds(bounds);
-            made.write_slacks(slacks);
-            *plan = made;
-            Ok(())
-        }
-        Err(fault) => {
-            plan.clear();
-            Err(fault)
-        }
-    }
+    plan.clear();
+    let made = Plan::verdict(draft, resource, room)?;
+    made.write_bounds(bounds);
+    made.write_slacks(slacks);
+    *plan = made;
+    Ok(())
 }

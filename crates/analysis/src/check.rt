@@ -1,85 +1,64 @@
-// What is asked of a draft before its bounds are looked for.
-ghost use Rattle.std.specs.Prelude.{◌≡◌, ℕ, ◌<◌, MatchOption, MatchResult};
-ghost use Rattle.sets.specs.Below.{some_below};
-ghost use Rattle.taskset.specs.View.{table};
-ghost use Rattle.analysis.specs.Costs.{cost_of};
-ghost use Rattle.analysis.specs.FloorOf.{floor_of};
-ghost use Rattle.analysis.specs.Verdict.{strays, dear, NoneBelow, IsFirst, Ready, Refused};
+//! What is asked of a floor before its bounds are looked for.
+ghost use Rattle.std.specs.Prelude.{◌≡◌, ◌&&◌, nat_le, MatchOption, MatchResult};
+ghost use Rattle.sets.specs.Below.{some_below, IsLowest, NoneBelow};
+ghost use Rattle.analysis.specs.PricedFloor.{priced_floor};
+ghost use Rattle.analysis.specs.Verdict.{strays, dear, Ready, Refused};
 
-use crate::costs::WayCosts;
 use crate::fault::AnalysisFault;
-use crate::row::reads::uses;
-use taskset::draft::Draft;
+use crate::priced::PricedDraft;
 
 // Does the task use a way from `ways` on?
-fn is_stray(draft: &Draft, task: u8, ways: u8) -> bool
-    ensures { (cost : ℕ → ℕ) → result ≡ strays (floor_of (table draft.now) cost) ways task }
+fn is_stray(floor: &PricedDraft, task: u8, ways: u8) -> bool
+    ensures { result ≡ strays (priced_floor floor.now) ways task }
 {
-    for way in ways..8 {
-        if uses(draft, task, way) {
-            return true;
-        }
-    }
-    false
+    (0..8).any(|way| ways <= way && floor.uses(task, way))
 }
 
 // The lowest task that uses a way from `ways` on.
-fn first_stray(draft: &Draft, ways: u8) -> Option<u8>
-    ensures { (cost : ℕ → ℕ) → MatchOption result (NoneBelow (floor_of (table draft.now) cost).tasks (strays (floor_of (table draft.now) cost) ways)) (λ i. IsFirst (floor_of (table draft.now) cost).tasks (strays (floor_of (table draft.now) cost) ways) i) }
+fn first_stray(floor: &PricedDraft, ways: u8) -> Option<u8>
+    ensures { let f = priced_floor floor.now in
+        MatchOption result (NoneBelow f.tasks (strays f ways)) (IsLowest f.tasks (strays f ways)) }
 {
-    for task in 0..draft.count() {
-        if is_stray(draft, task, ways) {
-            return Some(task);
-        }
-    }
-    None
+    (0..floor.count()).find(|task| is_stray(floor, *task, ways))
 }
 
 // Does some task use the way?
-fn is_used(draft: &Draft, way: u8) -> bool
-    ensures { (cost : ℕ → ℕ) → result ≡ some_below (floor_of (table draft.now) cost).tasks (λ i. (floor_of (table draft.now) cost).uses i way) }
+fn is_used(floor: &PricedDraft, way: u8) -> bool
+    ensures { let f = priced_floor floor.now in result ≡ some_below f.tasks (λ i. f.uses i way) }
 {
-    for task in 0..draft.count() {
-        if uses(draft, task, way) {
-            return true;
-        }
-    }
-    false
+    (0..floor.count()).any(|task| floor.uses(task, way))
 }
 
 // Does the way cost over 1,000 calls, and does some task use it?
-fn is_dear(draft: &Draft, costs: &WayCosts, way: u8) -> bool
-    ensures { result ≡ dear (floor_of (table draft.now) (cost_of costs.now)) way }
+fn is_dear(floor: &PricedDraft, way: u8) -> bool
+    ensures { result ≡ dear (priced_floor floor.now) way }
 {
-    costs.of(way) > 1_000 && is_used(draft, way)
+    floor.cost(way) > 1_000 && is_used(floor, way)
 }
 
 // The lowest way that some task uses and that costs over 1,000 calls.
-fn first_dear(draft: &Draft, costs: &WayCosts) -> Option<u8>
-    ensures { MatchOption result (NoneBelow (floor_of (table draft.now) (cost_of costs.now)).ways (dear (floor_of (table draft.now) (cost_of costs.now)))) (λ w. IsFirst (floor_of (table draft.now) (cost_of costs.now)).ways (dear (floor_of (table draft.now) (cost_of costs.now))) w) }
+fn first_dear(floor: &PricedDraft) -> Option<u8>
+    ensures { let f = priced_floor floor.now in
+        MatchOption result (NoneBelow f.ways (dear f)) (IsLowest f.ways (dear f)) }
 {
-    for way in 0..8 {
-        if is_dear(draft, costs, way) {
-            return Some(way);
-        }
-    }
-    None
+    (0..8).find(|way| is_dear(floor, *way))
 }
 
-// Everything but the bounds, in the order in which the refusals come.
-pub fn check(draft: &Draft, costs: &WayCosts, ways: u8, room: usize) -> Result<(), AnalysisFault>
-    ensures { MatchResult result (λ _. Ready (floor_of (table draft.now) (cost_of costs.now)) ways room) (λ e. Refused (floor_of (table draft.now) (cost_of costs.now)) ways room e) }
+/// Everything but the bounds, in the order in which the refusals come.
+pub fn check(floor: &PricedDraft, ways: u8, room: usize) -> Result<(), AnalysisFault>
+    ensures { let f = priced_floor floor.now in
+        MatchResult result (λ _. Ready f ways room) (Refused f ways room) }
 {
-    if draft.count() == 0 {
+    if floor.count() == 0 {
         return Err(AnalysisFault::NoTask);
     }
-    if let Some(task) = first_stray(draft, ways) {
+    if let Some(task) = first_stray(floor, ways) {
         return Err(AnalysisFault::NoWay(task));
     }
-    if let Some(way) = first_dear(draft, costs) {
+    if let Some(way) = first_dear(floor) {
         return Err(AnalysisFault::DearWay(way));
     }
-    if room < usize::from(draft.count()) {
+    if room < usize::from(floor.count()) {
         return Err(AnalysisFault::ShortList);
     }
     Ok(())

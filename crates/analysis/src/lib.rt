@@ -1,4 +1,4 @@
-// The analysis of a floor: what the scrubs of its ways cost its tasks, a bound on each task's response, and the plan of an accepted floor.
+//! The analysis of a floor: what the scrubs of its ways cost its tasks, a bound on each task's response, and the plan of an accepted floor.
 #![tactic(auto)]
 
 pub mod analyse;
@@ -8,6 +8,7 @@ mod demand;
 pub mod fault;
 pub mod least;
 pub mod plan;
+mod priced;
 mod rivals;
 mod row;
 mod settle;

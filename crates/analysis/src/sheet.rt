@@ -1,26 +1,54 @@
-ghost use Rattle.std.specs.Prelude.{◌≡◌, length};
-ghost use Rattle.taskset.specs.Table.{count as table_count};
-ghost use Rattle.taskset.specs.View.{table};
-ghost use Rattle.analysis.specs.Costs.{cost_of};
-ghost use Rattle.analysis.specs.FloorOf.{floor_of};
+//! A floor as the charges see it.
+ghost use Rattle.analysis.specs.PricedFloor.{priced_floor};
 ghost use Rattle.analysis.specs.Rows.{Rows};
 
-use crate::costs::WayCosts;
+use crate::priced::PricedDraft;
 use crate::row::Row;
-use taskset::draft::Draft;
+use std::array;
 
 pub mod charges;
 pub mod limits;
-pub mod make;
 
-// A floor as the charges see it: a row for each task of the draft. The rows from `count` on are unused.
+/// A row for each of sixteen numbers, of which the draft's tasks have the first.
 #[derive(Clone, Copy)]
 pub struct Sheet {
-    draft: Draft,
-    costs: WayCosts,
-    count: u8,
+    floor: PricedDraft,
     rows: [Row; 16],
-    ghost counted: { count ≡ table_count (table draft) },
-    ghost places: { length rows ≡ 16 },
-    ghost told: { ∥ Rows (floor_of (table draft) (cost_of costs)) rows ∥₁ },
+    ghost told: { Rows floor rows },
+}
+
+impl Sheet {
+    ghost use Rattle.std.specs.Prelude.{◌≡◌, ◌<◌, ◌≤◌};
+    ghost use Rattle.analysis.specs.Rows.{row_of};
+    ghost use Rattle.analysis.specs.Sheets.{sheet_floor};
+
+    /// The sheet of a floor.
+    pub fn of(floor: &PricedDraft) -> Sheet
+        ensures { sheet_floor result ≡ priced_floor floor.now }
+    {
+        Sheet {
+            floor: *floor,
+            // from_fn tells a usize; below the array's length the remainder is the number itself
+            rows: array::from_fn(|task| floor.row((task % 16) as u8)),
+        }
+    }
+
+    /// How many tasks there are.
+    pub fn count(&self) -> u8
+        ensures value { result ≡ (sheet_floor self.now).tasks }
+        ensures few { result ≤ 16 }
+    {
+        self.floor.count()
+    }
+
+    /// The row of a number.
+    pub fn row(&self, task: u8) -> Row
+        ensures { result ≡ row_of self.now.floor task }
+    {
+        if task < 16 {
+            self.rows[task as usize]
+        } else {
+            self.floor.row(task)
+        }
+    }
 }

@@ -3,7 +3,7 @@ use Rattle.std.proofs.Common.{◌≡◌, ℕ, suc, ◌<◌, Bool, true, false, c
 use Rattle.std.proofs.lemmas.Bool.Decides.{leb_tells, nat_tests}
 use Rattle.sets.specs.Below.{some_below}
 use Rattle.sets.specs.Member.{member}
-use Rattle.sets.specs.Sets.{names}
+use Rattle.sets.specs.Sets.{has, nobody, with_member}
 use Rattle.resource.specs.declared.answer.Progress.{Progress}
 use Rattle.resource.specs.declared.answer.Progress.TheVariants.{Done, UnderWay}
 use Rattle.resource.specs.Answers.{is_done}
@@ -57,5 +57,5 @@ every f s x (Run i ended) t y one r =
     (said ∙ out-tick (Scrub (chosen f s) (scrub_way f s (chosen f s)) Done) (Run (chosen f s) (last_tick s (chosen f s))) Rest (sym yes1) (sym no2), subst (Agree f t) (left ∙ out-tick (scrubbed f (chosen f s) (scrub_way f s (chosen f s)) true s) (served f (chosen f s) s) (rested f s) (sym yes1) (sym no2)) r.later)
 
 pub run-stands : WorkedRun
-unfolding tick_answer tick_state floor_of figures_at names member some_below chosen scrub_way stays tainted pending fresh announcing taken rested scrubbed served
+unfolding tick_answer tick_state floor_of figures_at has nobody with_member member some_below chosen scrub_way stays tainted pending fresh announcing taken rested scrubbed served
 run-stands = record { every = every; one_taken = refl; one_runs = refl; zero_taken = refl; five = refl; nine = refl; ten = refl }

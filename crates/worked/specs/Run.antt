@@ -4,6 +4,7 @@ use Rattle.refusal.specs.Outcome.{after, answered}
 use Rattle.resource.specs.declared.answer.Progress.TheVariants.{Done}
 use Rattle.resource.specs.Seen.{Seen}
 use Rattle.taskset.specs.declared.task.Kind.TheVariants.{Split}
+use Rattle.taskset.specs.Table.{with_pair}
 use Rattle.analysis.specs.Floor.{Floor}
 use Rattle.analysis.specs.FloorOf.{floor_of}
 use Rattle.runs.specs.declared.answer.TickAnswer.{TickAnswer}
@@ -12,7 +13,7 @@ use Rattle.runs.specs.declared.fault.CallFault.{CallFault}
 use Rattle.runs.specs.declared.fault.CallFault.TheVariants.{TooEarly}
 use Rattle.runs.specs.Calls.{Ticked, announcing, last_tick, rested, scrubbed, served}
 use Rattle.runs.specs.State.{Agree, State, chosen, fresh, scrub_way}
-use Rattle.worked.specs.Tables.{pair, task}
+use Rattle.worked.specs.Tables.{free_table, task}
 
 -- what a tick answers where every scrub is done with its first call
 unfoldable pub tick_answer : Floor → State → TickAnswer
@@ -48,7 +49,7 @@ announcement f i s = answered tt (announcing f i s)
 
 -- two split tasks on way 0 of the row banks, where task 0 must not run on a trace of task 1
 abbrev pub banks_floor : Floor
-banks_floor = floor_of (record { tasks = task 10 1 10 0 Split ∷ task 20 3 20 0 Split ∷ []; noleak = λ k i. pair 1 0 k i }) (λ w. cond (nat_lt w 8) 1 0)
+banks_floor = floor_of (with_pair (free_table (task 10 1 10 0 Split ∷ task 20 3 20 0 Split ∷ [])) 1 0) (λ w. cond (nat_lt w 8) 1 0)
 
 -- no way costs more than one call, as on the row banks
 abbrev pub OneCall : Seen → Type 0

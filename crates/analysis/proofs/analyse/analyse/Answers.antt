@@ -1,32 +1,19 @@
-use Rattle.std.proofs.Common.{ℕ, ◌-◌, ap, subst, arith}
-use Rattle.taskset.specs.View.{table}
-use Rattle.analysis.specs.After.{Written}
+use Rattle.std.proofs.Common.{ℕ, ◌-◌, subst}
 use Rattle.analysis.specs.Floor.{Floor}
 use Rattle.analysis.specs.FloorOf.{floor_of}
 use Rattle.analysis.specs.PlanOf.{plan_bound}
 use Rattle.analysis.specs.Verdict.{asked_floor, Ready}
+use Rattle.analysis.specs.Written.{Written}
 use Rattle.analysis.proofs.Verdicts.{plan-asked}
 use Rattle.analysis.proofs.analyse.analyse.Goals as goal
 
-pub write_bounds-requires : goal.write_bounds-requires
-write_bounds-requires g c =
-    let h = c.in-Ok.ensures in
-    let e = plan-asked (table c.args.draft.now) (g.R.Resource.meaning.seen c.args.resource.now) c.in-Ok.made h.1 in
-    omega (arith, ap (λ (f : Floor). f.tasks) e, h.0.fits, c.min-room.ensures)
-
-pub write_slacks-requires : goal.write_slacks-requires
-write_slacks-requires g c =
-    let h = c.in-Ok.ensures in
-    let e = plan-asked (table c.args.draft.now) (g.R.Resource.meaning.seen c.args.resource.now) c.in-Ok.made h.1 in
-    omega (arith, ap (λ (f : Floor). f.tasks) e, h.0.fits, c.min-room.ensures)
-
-pub returns-in-Ok : goal.returns-in-Ok
+pub returns : goal.returns
 unfolding floor_of
-returns-in-Ok g c =
+returns g c =
     let x = g.R.Resource.meaning.seen c.args.resource.now in
-    let t = table c.args.draft.now in
-    let m = c.in-Ok.made in
-    let h = c.in-Ok.ensures in
+    let t = c.args.draft.now in
+    let m = c.in_ok-made.made in
+    let h = c.in_ok-made.ensures in
     let e = plan-asked t x m h.1 in
     record {
       verdict = (subst (λ (n : ℕ). Ready (asked_floor t x) x.ways n) c.min-room.ensures h.0, λ i l. (plan_bound m i, h.1.bounds i l));

@@ -1,14 +1,10 @@
-use Rattle.std.proofs.Common.{sym, arith, below_more}
+use Rattle.std.proofs.Common.{rules, tests}
+use Rattle.sets.proofs.Found.{lowest-found}
 use Rattle.analysis.specs.FloorOf.{floor_of}
+use Rattle.analysis.specs.PricedFloor.{priced_floor}
+use Rattle.analysis.specs.Verdict.{dear}
 use Rattle.analysis.proofs.check.first_dear.Goals as goal
-
-pub returns-then-is_dear : goal.returns-then-is_dear
-unfolding floor_of
-returns-then-is_dear c = record { below = c.loop-way-test.true; passes = sym c.if-is_dear.ensures; lowest = c.loop-way.invariant }
-
-pub loop-way-preserved : goal.loop-way-preserved
-loop-way-preserved c = below_more _ _ c.loop-way.invariant (sym c.if-is_dear.ensures)
 
 pub returns : goal.returns
 unfolding floor_of
-returns c j l = c.loop-way.invariant j (omega (arith, c.loop-way-test.false))
+returns c = lowest-found 8 (dear (priced_floor c.args.floor.now)) _ _ _ c.find.ensures.ran (λ x b q k. search (rules, tests))

@@ -1,14 +1,11 @@
-use Rattle.std.proofs.Common.{sym, arith, below_more}
-use Rattle.analysis.specs.FloorOf.{floor_of}
+use Rattle.std.proofs.Common.{ℕ, MatchOption, rules, subst, tests}
+use Rattle.sets.specs.Below.{IsLowest, NoneBelow}
+use Rattle.sets.proofs.Found.{lowest-found}
+use Rattle.analysis.specs.PricedFloor.{priced_floor}
+use Rattle.analysis.specs.Verdict.{strays}
 use Rattle.analysis.proofs.check.first_stray.Goals as goal
 
-pub returns-then-is_stray : goal.returns-then-is_stray
-unfolding floor_of
-returns-then-is_stray c cost = record { below = omega (arith, c.count-task-end.ensures.value); passes = sym (c.if-is_stray.ensures cost); lowest = c.loop-task.invariant cost }
-
-pub loop-task-preserved : goal.loop-task-preserved
-loop-task-preserved c cost = below_more _ _ (c.loop-task.invariant cost) (sym (c.if-is_stray.ensures cost))
-
 pub returns : goal.returns
-unfolding floor_of
-returns c cost j l = c.loop-task.invariant cost j (omega (arith, c.count-task-end.ensures.value))
+returns c =
+    let test = strays (priced_floor c.args.floor.now) c.args.ways in
+    subst (λ (n : ℕ). MatchOption c.find.result (NoneBelow n test) (IsLowest n test)) c.count.ensures.value (lowest-found _ test _ _ _ c.find.ensures.ran (λ x b q k. search (rules, tests)))

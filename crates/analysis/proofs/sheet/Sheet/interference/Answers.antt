@@ -1,21 +1,24 @@
-use Rattle.std.proofs.Common.{◌≡◌, ℕ, ◌+◌, ap, ◌∙◌, add-one, arith}
-use Rattle.analysis.specs.Charges.{interference, resume_below, resume_cost, scrub_cost}
-use Rattle.analysis.specs.Floor.{Floor}
-use Rattle.analysis.specs.Sheets.{sheet_floor}
-use Rattle.analysis.proofs.Sheets.{sixteen}
+use Rattle.std.proofs.Common.{◌+◌, add-one, arith}
+use Rattle.analysis.specs.Charges.{interference, resume_cost}
+use Rattle.analysis.proofs.Floors.{sixteen}
+use Rattle.analysis.proofs.Limits.{resume-few}
+use Rattle.analysis.proofs.Sheets.{row-facts}
 use Rattle.analysis.proofs.sheet.Sheet.interference.Goals as goal
 
-three : (f : Floor) (j i a b r : ℕ) → a ≡ f.budget j → b ≡ scrub_cost f j → r ≡ resume_below f j (i + 1) → a + b + r ≡ interference f j i
-unfolding interference resume_cost
-three f j i a b r p q h = let e = h ∙ ap (resume_below f j) (add-one i) in omega (arith, e)
+pub overflow_add-result : goal.overflow_add-result
+overflow_add-result c = let r = row-facts c.args.self.now.floor c.args.j c.row-row.result c.row-row.ensures in omega arith
 
-pub resume_up_to-requires : goal.resume_up_to-requires
-resume_up_to-requires c = (c.requires.1, omega (arith, c.requires.1, sixteen c.args.self.now))
+pub overflow_add-i : goal.overflow_add-i
+overflow_add-i c = omega (arith, sixteen c.args.self.now.floor)
+
+pub overflow_add-result-2 : goal.overflow_add-result-2
+overflow_add-result-2 c =
+    let r = row-facts c.args.self.now.floor c.args.j c.row-row.result c.row-row.ensures in
+    omega (arith, c.resume_below.ensures, resume-few c.args.self.now.floor c.args.j (c.args.i + 1))
 
 pub returns : goal.returns
+unfolding interference resume_cost
 returns c =
-    let f = sheet_floor c.args.self.now in
-    record {
-      value = three f c.args.j c.args.i _ _ _ c.row-row.ensures.budget c.row-row.ensures.scrub c.resume_up_to.ensures.value;
-      few = omega (arith, c.row-row.ensures.longest, c.row-row.ensures.most, c.resume_up_to.ensures.few);
-    }
+    let r = row-facts c.args.self.now.floor c.args.j c.row-row.result c.row-row.ensures in
+    let m = rw add-one at c.resume_below.ensures in
+    omega (arith, m)
