@@ -1,32 +1,22 @@
 -- The law on the calls, from the law of runs and what holds of every plan.
-use Rattle.std.proofs.Common.{◌≡◌, ℕ, zero, suc, ◌<◌, ◌≤◌, Bool, true, false, ◌&&◌, List, [], ◌∷◌, length, Result, refl, arith, leb-true}
+use Rattle.std.proofs.Common.{◌≡◌, ℕ, zero, suc, ◌<◌, ◌≤◌, Bool, true, false, List, [], ◌∷◌, length, refl, arith, leb-true}
 use Rattle.resource.specs.Seen.{Seen}
 use Rattle.taskset.specs.declared.task.Figures.{Figures}
 use Rattle.taskset.specs.declared.task.Task.{Task}
 use Rattle.taskset.specs.Figures.{lawful, all_lawful}
+use Rattle.taskset.specs.Table.{noleak}
 use Rattle.analysis.specs.declared.plan.Plan.{Plan}
 use Rattle.analysis.specs.FloorOf.{floor_of, figures_at}
-use Rattle.analysis.specs.PlanOf.{plan_table, plan_floor, plan_bound}
+use Rattle.analysis.specs.PlanOf.{plan_table, plan_figures, plan_floor, plan_bound}
 use Rattle.analysis.proofs.Plans.{plan-accepted, plan-lawful}
-use Rattle.runs.specs.State.{State}
-use Rattle.runs.specs.declared.answer.TickAnswer.{TickAnswer}
-use Rattle.runs.specs.declared.fault.CallFault.{CallFault}
-use Rattle.runs.specs.Calls.{Announced, Finished, Ticked}
-use Rattle.runs.specs.History.{Event, announce, finish, tick}
+use Rattle.runs.specs.History.{Event}
 use Rattle.runs.specs.Run.{Proper, Step}
+use Rattle.runs.proofs.Sums.{and_left, and_right}
 use Rattle.runs.proofs.Theorem.{kept_more}
-use Rattle.dispatch.specs.View.{task_figures}
-use Rattle.dispatch.specs.Lasting.{RunGoesOn}
-use Rattle.dispatch.proofs.Plans.{plan-tasks, plan-few, uses-there}
-
-and-fst : (a b : Bool) → (a && b) ≡ true → a ≡ true
-and-fst true b e = refl
-and-fst false b e = e
-
-and-snd : (a b : Bool) → (a && b) ≡ true → b ≡ true
-and-snd true b e = e
-and-snd false true e = refl
-and-snd false false e = e
+use Rattle.dispatch.specs.declared.dispatcher.Dispatcher.{Dispatcher}
+use Rattle.dispatch.specs.View.{plan_of, floor, state_of}
+use Rattle.dispatch.specs.Lasting.{GoesOn}
+use Rattle.dispatch.proofs.Plans.{plan-tasks, plan_few, uses-there}
 
 -- what is used of figures in their ranges
 record InRange (x : Figures) : Type 0 where
@@ -37,18 +27,18 @@ record InRange (x : Figures) : Type 0 where
 in-range : (x : Figures) → lawful x ≡ true → InRange x
 unfolding lawful
 in-range x e =
-    let r = and-snd _ _ e in
-    let d = and-fst _ _ (and-snd _ _ r) in
-    record { budget = leb-true _ _ (and-fst _ _ (and-fst _ _ r)); deadline = leb-true _ _ (and-fst _ _ d); period = leb-true _ _ (and-snd _ _ d) }
+    let r = and_right _ _ e in
+    let d = and_left _ _ (and_right _ _ r) in
+    record { budget = leb-true _ _ (and_left _ _ (and_left _ _ r)); deadline = leb-true _ _ (and_left _ _ d); period = leb-true _ _ (and_right _ _ d) }
 
 figures-lawful : (ts : List Task) (i : ℕ) → i < length ts → all_lawful ts ≡ true → lawful (figures_at ts i) ≡ true
 unfolding figures_at
 figures-lawful [] i l e = absurd (omega arith)
-figures-lawful (t ∷ ts) zero l e = and-fst _ _ e
-figures-lawful (t ∷ ts) (suc i) l e = figures-lawful ts i (omega arith) (and-snd _ _ e)
+figures-lawful (t ∷ ts) zero l e = and_left _ _ e
+figures-lawful (t ∷ ts) (suc i) l e = figures-lawful ts i (omega arith) (and_right _ _ e)
 
-task-in-range : (p : Plan) (i : ℕ) → i < (plan_floor p).tasks → InRange (task_figures p i)
-task-in-range p i l = in-range (task_figures p i) (figures-lawful (plan_table p).tasks i (omega (arith, plan-tasks p)) (plan-lawful p).figures)
+task-in-range : (p : Plan) (i : ℕ) → i < (plan_floor p).tasks → InRange (plan_figures p i)
+task-in-range p i l = in-range (plan_figures p i) (figures-lawful (plan_table p).tasks i (omega (arith, plan-tasks p)) (plan-lawful p).figures)
 
 not-true : (b : Bool) → (b ≡ true → ⊥) → b ≡ false
 not-true true h = absurd (h refl)
@@ -62,21 +52,13 @@ plan-proper p = record {
   deadlines = λ i l. (task-in-range p i l).deadline;
   periods = λ i l. (task-in-range p i l).period;
   ways = uses-there p;
-  few = plan-few p;
+  few = plan_few p;
   listed = (plan-lawful p).listed;
-  apart = λ i. not-true ((plan_table p).noleak i i) ((plan-lawful p).apart i);
+  apart = λ i. not-true (noleak (plan_table p) i i) ((plan-lawful p).apart i);
 }
 
--- so each call keeps the law, by its own step
-module _ (p : Plan) (s : State) (x : Seen) where
-  goes_on : (e : Event) (t : State) (y : Seen) → Step (plan_floor p) s x e t y → RunGoesOn (plan_floor p) s x e t y
-  goes_on e t y d h run = kept_more (plan_floor p) (plan_bound p) (plan-proper p) (plan-accepted p) e t y run d
-
-  pub announced-lasts : (i : ℕ) (r : Result (Unit {0}) CallFault) (t : State) → Announced (plan_floor p) s x i r t x → RunGoesOn (plan_floor p) s x (announce i r) t x
-  announced-lasts i r t d = goes_on (announce i r) t x d
-
-  pub finished-lasts : (i : ℕ) (r : Result (Unit {0}) CallFault) (t : State) → Finished (plan_floor p) s x i r t x → RunGoesOn (plan_floor p) s x (finish i r) t x
-  finished-lasts i r t d = goes_on (finish i r) t x d
-
-  pub ticked-lasts : (a : TickAnswer) (t : State) (y : Seen) → Ticked (plan_floor p) s x a t y → RunGoesOn (plan_floor p) s x (tick x a) t y
-  ticked-lasts a t y d = goes_on (tick x a) t y (refl, d)
+-- so a call that keeps the plan and does as the rules say goes on with every run, and keeps the law
+pub goes-on : (d : Dispatcher) (x : Seen) (v : Event) (e : Dispatcher) (y : Seen) → plan_of e ≡ plan_of d → Step (floor d) (state_of d) x v (state_of e) y → GoesOn d x v e y
+goes-on d x v e y same step =
+    let p = plan_of d in
+    record { plan = same; step = step; law = λ h run. kept_more (floor d) (plan_bound p) (plan-proper p) (plan-accepted p) v (state_of e) y run step }

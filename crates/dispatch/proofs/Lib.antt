@@ -1,9 +1,8 @@
 pub mod Firsts
 pub mod Plans
 pub mod Optionals
-pub mod Choices
-pub mod Arrays
 pub mod Later
 pub mod Answered
 pub mod Starts
 pub mod Lasting
+pub mod Ticks

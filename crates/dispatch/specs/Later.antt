@@ -1,21 +1,19 @@
 -- What a tick leaves, as the dispatcher's arrays.
-use Rattle.std.specs.Prelude.{◌≡◌, ℕ, ◌<◌, true, false, ◌&&◌, ◌||◌, List, length, Some, None, Option, ◌==◌, nat_lt, slice_index}
-use Rattle.sets.specs.declared.task_set.TaskSet.{TaskSet}
-use Rattle.runs.specs.Calls.{older}
+use Rattle.std.specs.Prelude.{◌≡◌, ℕ, ◌+◌, ◌<◌, min, ◌&&◌, ◌||◌, List, length, ◌==◌}
+use Rattle.sets.specs.Sets.{TaskSet}
+use Rattle.analysis.specs.Floor.{Floor}
 use Rattle.dispatch.specs.declared.dispatcher.Dispatcher.{Dispatcher}
-use Rattle.dispatch.specs.View.{floor, state_of, record_at}
+use Rattle.dispatch.specs.declared.dispatcher.Job.{Job}
+use Rattle.dispatch.specs.View.{floor, job_at, record_at}
 
--- the lowest of the tasks below n that has a job, by what is left of each budget, or none
-abbrev pub FirstJob : List ℕ → ℕ → Option ℕ → Type 0
-FirstJob left n None = (k : ℕ) → k < n → nat_lt 0 (slice_index left k) ≡ false
-FirstJob left n (Some i) = (i < n) × (nat_lt 0 (slice_index left i) ≡ true) × ((k : ℕ) → k < i → nat_lt 0 (slice_index left k) ≡ false)
-
--- every age after one more tick
-pub record Older (d : Dispatcher) (ages : List ℕ) : Type 0 where
-  pub places : length ages ≡ 16
-  pub each : (k : ℕ) → k < (floor d).tasks → slice_index ages k ≡ older (floor d) (state_of d) k
+-- every task's age grows by one tick, as far as its period, and what is left of its budget stays
+pub record Older (f : Floor) (old new : List Job) : Type 0 where
+  pub places : length new ≡ length old
+  pub age : (k : ℕ) → k < f.tasks → (job_at new k).age ≡ min ((job_at old k).age + 1) (f.period k)
+  pub left : (k : ℕ) → (job_at new k).left ≡ (job_at old k).left
 
 -- every record after a run of task i
-pub record RecordsWith (d : Dispatcher) (i : ℕ) (records : List TaskSet) : Type 0 where
-  pub places : length records ≡ 8
-  pub each : (w k : ℕ) → w < 8 → record_at records w k ≡ (record_at d.records w k || (k == i && (floor d).uses i w))
+abbrev pub RecordsWith : Dispatcher → ℕ → List TaskSet → Type 0
+RecordsWith d i records =
+    (w : ℕ) → w < 8 → (k : ℕ)
+    → record_at records w k ≡ (record_at d.records w k || (k == i && (floor d).uses i w))

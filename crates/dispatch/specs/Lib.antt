@@ -1,5 +1,6 @@
 pub mod Optional
 pub mod View
+pub mod Turn
 pub mod Later
 pub mod Tick
 pub mod Start

@@ -1,10 +1,9 @@
 -- What a start answers, does to the resource, and leaves.
-use Rattle.std.specs.Prelude.{◌≡◌, ℕ, suc, ◌<◌, Bool, false, cond, not, List, length, replicate, None, Ok, Err, Result, ◌==◌, nat_lt, slice_index}
-use Rattle.sets.specs.declared.task_set.TaskSet.{TaskSet}
+use Rattle.std.specs.Prelude.{◌≡◌, ℕ, ◌<◌, Bool, false, cond, not, List, Ok, Err, Result, ◌==◌, nat_lt}
 use Rattle.resource.specs.Answers.{told16}
 use Rattle.resource.specs.Seen.{Seen, Sound}
 use Rattle.resource.specs.Meaning.{Meaning}
-use Rattle.resource.specs.Until.{UntilDone}
+use Rattle.resource.specs.Until.{EveryWayDone}
 use Rattle.analysis.specs.declared.plan.Plan.{Plan}
 use Rattle.analysis.specs.Floor.{Floor}
 use Rattle.analysis.specs.PlanOf.{plan_floor}
@@ -14,22 +13,13 @@ use Rattle.runs.specs.declared.fault.StartFault.TheVariants.{NoTask, OtherCosts}
 use Rattle.runs.specs.State.{Agree, fresh}
 use Rattle.runs.specs.Run.{Started}
 use Rattle.dispatch.specs.declared.dispatcher.Dispatcher.{Dispatcher}
-use Rattle.dispatch.specs.View.{floor, state_of}
+use Rattle.dispatch.specs.declared.dispatcher.Job.{Job}
+use Rattle.dispatch.specs.View.{plan_of, floor, state_of, job_at}
 
--- every age is the task's period
-pub record FullAges (p : Plan) (ages : List ℕ) : Type 0 where
-  pub places : length ages ≡ 16
-  pub each : (k : ℕ) → k < (plan_floor p).tasks → slice_index ages k ≡ (plan_floor p).period k
-
--- a dispatcher of the plan with these ages, nobody holding the core, no job, and the same record on every way
-pub record Idle (p : Plan) (ages : List ℕ) (tasks : TaskSet) (d : Dispatcher) : Type 0 where
-  pub plan : d.plan ≡ p
-  pub full : d.ages ≡ ages
-  pub left : d.left ≡ replicate 16 0
-  pub holder : d.holder ≡ None
-  pub under : d.under ≡ None
-  pub ran : d.just_run ≡ None
-  pub records : d.records ≡ replicate 8 tasks
+-- every task's age is its period, and none has a job
+pub record FreshJobs (f : Floor) (jobs : List Job) : Type 0 where
+  pub age : (k : ℕ) → k < f.tasks → (job_at jobs k).age ≡ f.period k
+  pub left : (k : ℕ) → k < f.tasks → (job_at jobs k).left ≡ 0
 
 -- the dispatcher's state is that right after a start
 abbrev pub Fresh : Dispatcher → Type 0
@@ -44,16 +34,7 @@ unfoldable pub starting : Floor → Seen → Result (Unit {0}) StartFault
 starting f x =
     cond (f.tasks == 0) (Err NoTask) (cond (nat_lt (first_below f.ways (differs f x)) f.ways) (Err (OtherCosts (first_below f.ways (differs f x)))) (Ok tt))
 
--- the ways below w were scrubbed one after the other from way 0 on, each until it was done, and there was no other call
-pub data ScrubbedBelow {S : Type 0} (m : Meaning S) (s : S) : ℕ → S → Type 0 where
-  none : ScrubbedBelow m s 0 s
-  more : {w calls : ℕ} {u t : S} → ScrubbedBelow m s w u → UntilDone m w u calls t → ScrubbedBelow m s (suc w) t
-
--- all ways of the resource were, and there was no other call
-abbrev pub AllScrubbed : {S : Type 0} → Meaning S → S → S → Type 0
-AllScrubbed m s t = ScrubbedBelow m s (m.seen s).ways t
-
--- what that comes to: no trace is left anywhere, and every way's cost, as the resource answers, is the floor's
+-- what scrubbing every way comes to: no trace is left anywhere, and every way's cost, as the resource answers, is the floor's
 pub record Ready (f : Floor) (y : Seen) : Type 0 where
   pub sound : Sound y
   pub bare : (w k : ℕ) → y.traces w k ≡ false
@@ -61,8 +42,9 @@ pub record Ready (f : Floor) (y : Seen) : Type 0 where
 
 -- a dispatcher and a resource right after a start of the plan
 pub record Begun {S : Type 0} (m : Meaning S) (p : Plan) (r : S) (e : Dispatcher) (t : S) : Type 0 where
-  pub plan : e.plan ≡ p
-  pub calls : AllScrubbed m r t
+  pub plan : plan_of e ≡ p
+  -- every way of the resource was scrubbed until it was done, and there was no other call
+  pub calls : EveryWayDone m r t
   pub started : Started (plan_floor p) (state_of e) (m.seen t)
 
 -- the dispatcher and the resource after a start, by its answer: begun, or as they were

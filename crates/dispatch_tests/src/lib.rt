@@ -1,4 +1,4 @@
-// The dispatcher on examples: a run worked by hand on the row banks, and each refusal of its calls.
+//! The dispatcher on examples: a run worked by hand on the row banks, and each refusal of its calls.
 #![tactic(auto)]
 
 use analysis::analyse::analyse;
@@ -8,12 +8,12 @@ use resource::answer::Progress;
 use row_banks::banks::RowBanks;
 use runs::answer::TickAnswer;
 use runs::fault::{CallFault, StartFault};
-use sets::way_set::WaySet;
+use sets::number_set::WaySet;
 use taskset::draft::Draft;
 use taskset::fault::DraftFault;
 use taskset::task::{Figures, Kind};
 
-// A split task on way 0.
+// A split task on way 0. The task set's tests have the same as `figures`: fixtures of two crates that share nothing else.
 fn split(period: u32, budget: u32, deadline: u32) -> Figures {
     let ways = WaySet::empty().with(0);
     Figures {

@@ -1,7 +1,7 @@
 -- Every call keeps the plain shape.
 use Rattle.std.proofs.Common.{◌≡◌, ℕ, ◌<◌, ◌≤◌, Bool, true, false, ◌&&◌, eqb, sym, ap, ◌∙◌, inl, inr, arith}
 use Rattle.std.proofs.lemmas.Bool.Decides.{nat_tests, eqb_tells}
-use Rattle.sets.specs.Sets.{names}
+use Rattle.sets.specs.Sets.{has}
 use Rattle.sets.proofs.Below.{bool_tells}
 use Rattle.resource.specs.Answers.{is_done}
 use Rattle.resource.specs.declared.answer.Progress.{Progress}
@@ -139,7 +139,7 @@ module _ (f : Floor) (pr : Proper f) (s : State) (x : Seen) (sh : Shape f s x) (
             | inl on ↦ elim (c.only w k on h) [
               | inr q ↦ old q
               | inl q ↦
-                  let u : names d.ways w ≡ true = grind (arith, on) in
+                  let u : has d.ways w ≡ true = grind (arith, on) in
                   let p : eqb k (chosen f s) ≡ true = grind (arith, nat_tests, q, d.task) in
                   let m : f.uses (chosen f s) w ≡ true = ap (λ j. f.uses j w) (sym d.task) ∙ sym (d.its w) ∙ u in
                   grind arith

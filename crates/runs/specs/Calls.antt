@@ -1,7 +1,6 @@
 -- What each call answers, and the state after it.
 use Rattle.std.specs.Prelude.{◌≡◌, ℕ, ◌+◌, ◌-◌, ◌<◌, ◌≤◌, min, Bool, cond, not, ◌&&◌, ◌||◌, Ok, Err, Result, ◌==◌, nat_lt}
-use Rattle.sets.specs.Sets.{names}
-use Rattle.sets.specs.declared.way_set.WaySet.{WaySet}
+use Rattle.sets.specs.Sets.{has, WaySet}
 use Rattle.refusal.specs.Outcome.{after, answered}
 use Rattle.resource.specs.Answers.{is_done}
 use Rattle.resource.specs.Seen.{Seen, RunOn, ScrubOn}
@@ -100,7 +99,7 @@ pub record Runs (f : Floor) (s : State) (x : Seen) (i : ℕ) (ended : Bool) (t :
   pub ends : ended ≡ last_tick s i
   pub later : Agree f t (served f i s)
   pub ways : WaySet
-  pub its : (w : ℕ) → names ways w ≡ f.uses i w
+  pub its : (w : ℕ) → has ways w ≡ f.uses i w
   pub call : RunOn x i ways y
 
 -- a tick, by its answer

@@ -1,38 +1,40 @@
-// Starting a plan over a resource.
-ghost use Rattle.std.specs.Prelude.{◌≡◌, ℕ, length, Ok};
-ghost use Rattle.resource.specs.Seen.{Seen, Sound};
-ghost use Rattle.analysis.specs.Floor.{Floor};
-ghost use Rattle.analysis.specs.Sums.{first_below};
-ghost use Rattle.analysis.specs.PlanOf.{plan_floor, EmptyPlan};
+//! Starting a plan over a resource.
+ghost use Rattle.std.specs.Prelude.{◌≡◌, Ok};
+ghost use Rattle.resource.specs.Seen.{Seen};
+ghost use Rattle.analysis.specs.PlanOf.{plan_figures, plan_floor, EmptyPlan};
 ghost use Rattle.runs.specs.Run.{Started};
-ghost use Rattle.dispatch.specs.Optional.{StandsFor};
 ghost use Rattle.dispatch.specs.Lasting.{RunBegins};
-ghost use Rattle.dispatch.specs.View.{state_of};
-ghost use Rattle.dispatch.specs.Start.{FullAges, Idle, Fresh, differs, starting, ScrubbedBelow, AllScrubbed, Ready, Begun, StartLeaves};
+ghost use Rattle.dispatch.specs.Optional.{IsFirstBelow};
+ghost use Rattle.dispatch.specs.View.{plan_of, state_of};
+ghost use Rattle.dispatch.specs.Start.{FreshJobs, Fresh, differs, starting, Ready, Begun, StartLeaves};
 
-use super::Dispatcher;
-use crate::reading::{figures, tasks_of};
+use super::{Dispatcher, Job};
 use analysis::plan::Plan;
 use resource::resource::Resource;
-use resource::until::scrub_until_done;
+use resource::until::scrub_every_way;
 use runs::fault::StartFault;
-use sets::task_set::TaskSet;
+use sets::number_set::TaskSet;
+use std::array;
+
+// Does the resource answer another cost for the way than the plan's?
+#[tactic(auto, unfolding(analysis::specs::FloorOf::floor_of))]
+fn costs_otherwise<R: Resource>(plan: &Plan, resource: &R, way: u8) -> bool
+    ensures { result ≡ differs (plan_floor plan.now) (R.meaning.seen resource.now) way }
+{
+    resource.cost_of(way) != plan.cost(way)
+}
 
 // The lowest way whose cost, as the resource answers, is not the plan's.
 fn other_cost<R: Resource>(plan: &Plan, resource: &R) -> Option<u8>
-    ensures { StandsFor (plan_floor plan.now).ways (first_below (plan_floor plan.now).ways (differs (plan_floor plan.now) (R.Resource.meaning.seen resource.now))) result }
+    ensures { IsFirstBelow 8 (differs (plan_floor plan.now) (R.meaning.seen resource.now)) result }
 {
-    for way in 0..8 {
-        if resource.cost_of(way) != plan.cost(way) {
-            return Some(way);
-        }
-    }
-    None
+    (0..8).find(|way| costs_otherwise(plan, resource, *way))
 }
 
 // May the plan be started over the resource, or why not?
+#[tactic(auto, unfolding(crate::specs::Start::starting, analysis::specs::FloorOf::floor_of))]
 fn may_start<R: Resource>(plan: &Plan, resource: &R) -> Result<(), StartFault>
-    ensures { result ≡ starting (plan_floor plan.now) (R.Resource.meaning.seen resource.now) }
+    ensures { result ≡ starting (plan_floor plan.now) (R.meaning.seen resource.now) }
 {
     if plan.is_empty() {
         return Err(StartFault::NoTask);
@@ -43,66 +45,44 @@ fn may_start<R: Resource>(plan: &Plan, resource: &R) -> Result<(), StartFault>
     }
 }
 
-// Scrubs each way below `count` until it is done, one after the other from way 0 on.
-fn scrub_below<R: Resource>(resource: &mut R, count: u8)
-    ensures calls { (n : ℕ) → count ≡ n → ScrubbedBelow R.Resource.meaning resource.old n resource.new }
-    ensures ready { (f : Floor) → Sound (R.Resource.meaning.seen resource.old) → count ≡ (R.Resource.meaning.seen resource.old).ways → starting f (R.Resource.meaning.seen resource.old) ≡ Ok tt → Ready f (R.Resource.meaning.seen resource.new) }
+// Each task's job before its first batch: an age of the task's period, and nothing left.
+fn first_jobs(plan: &Plan) -> [Job; 16]
+    ensures { FreshJobs (plan_floor plan.now) result }
 {
-    for way in 0..count {
-        let _ = scrub_until_done(resource, way);
-    }
+    // `from_fn` tells a usize; below 16 the remainder is the number itself.
+    array::from_fn(|task| first_job(plan, (task % 16) as u8))
 }
 
-// Scrubs every way of the resource until it is done.
-fn scrub_all<R: Resource>(resource: &mut R)
-    ensures calls { AllScrubbed R.Resource.meaning resource.old resource.new }
-    ensures ready { (f : Floor) → starting f (R.Resource.meaning.seen resource.old) ≡ Ok tt → Ready f (R.Resource.meaning.seen resource.new) }
+// That of one task.
+fn first_job(plan: &Plan, task: u8) -> Job
+    ensures age { result.age ≡ (plan_figures plan.now task).period }
+    ensures left { result.left ≡ 0 }
 {
-    let count = resource.way_count();
-    scrub_below(resource, count);
-}
-
-// The greatest age of each task: its period.
-fn full_ages(plan: &Plan) -> [u32; 16]
-    ensures { FullAges plan.now result }
-{
-    let mut ages = [0; 16];
-    for task in 0..tasks_of(plan) {
-        ages[task as usize] = figures(plan, task).period;
-    }
-    ages
+    let age = plan.figures_at(task).period;
+    Job { age, left: 0 }
 }
 
 impl Dispatcher {
-    // Nobody has the core and no way is under scrub.
-    fn idle(plan: &Plan, ages: [u32; 16], record: TaskSet) -> Dispatcher
-        requires { length ages ≡ 16 }
-        ensures { Idle plan.now ages «record» result }
+    // The state right after a start of the plan.
+    fn fresh(plan: &Plan) -> Dispatcher
+        ensures plan { plan_of result ≡ plan.now }
+        ensures state { Fresh result }
+        ensures started { (y : Seen) → Ready (plan_floor plan.now) y
+            → Started (plan_floor plan.now) (state_of result) y }
     {
         Dispatcher {
             plan: *plan,
-            ages,
-            left: [0; 16],
+            jobs: first_jobs(plan),
             holder: None,
             under: None,
             just_run: None,
-            records: [record; 8],
+            records: [TaskSet::empty(); 8],
         }
     }
 
-    // The state right after a start of the plan.
-    fn fresh(plan: &Plan) -> Dispatcher
-        ensures plan { result.plan ≡ plan.now }
-        ensures state { Fresh result }
-        ensures begun { (y : Seen) → Ready (plan_floor plan.now) y → Started (plan_floor plan.now) (state_of result) y }
-        ensures law { (y : Seen) → Ready (plan_floor plan.now) y → RunBegins (plan_floor plan.now) (Ok tt) (state_of result) y }
-    {
-        Dispatcher::idle(plan, full_ages(plan), TaskSet::empty())
-    }
-
-    // The dispatcher before its first start: it has no tasks, so that it refuses every batch and rests in every tick.
+    /// The dispatcher before its first start: it has no tasks, so that it refuses every batch and rests in every tick.
     pub fn new() -> Dispatcher
-        ensures plan { EmptyPlan result.plan }
+        ensures plan { EmptyPlan (plan_of result) }
         ensures state { Fresh result }
     {
         Dispatcher::fresh(&Plan::empty())
@@ -110,19 +90,20 @@ impl Dispatcher {
 
     // A run of the plan begins: every way is scrubbed, and the state is fresh.
     fn begin<R: Resource>(plan: &Plan, resource: &mut R) -> Dispatcher
-        requires { starting (plan_floor plan.now) (R.Resource.meaning.seen resource.old) ≡ Ok tt }
-        ensures begun { Begun R.Resource.meaning plan.now resource.old result resource.new }
-        ensures law { RunBegins (plan_floor plan.now) (Ok tt) (state_of result) (R.Resource.meaning.seen resource.new) }
+        requires { starting (plan_floor plan.now) (R.meaning.seen resource.old) ≡ Ok tt }
+        ensures { Begun R.meaning plan.now resource.old result resource.new }
     {
-        scrub_all(resource);
+        scrub_every_way(resource);
         Dispatcher::fresh(plan)
     }
 
-    // Starts the plan over the resource, whatever was started before; a refused start changes nothing.
+    /// Starts the plan over the resource, whatever was started before; a refused start changes nothing.
     pub fn start<R: Resource>(&mut self, plan: &Plan, resource: &mut R) -> Result<(), StartFault>
-        ensures answer { result ≡ starting (plan_floor plan.now) (R.Resource.meaning.seen resource.old) }
-        ensures later { StartLeaves R.Resource.meaning plan.now self.old resource.old result self.new resource.new }
-        ensures law { RunBegins (plan_floor plan.now) result (state_of self.new) (R.Resource.meaning.seen resource.new) }
+        ensures answer { result ≡ starting (plan_floor plan.now) (R.meaning.seen resource.old) }
+        ensures later { StartLeaves R.meaning plan.now self.old resource.old result
+            self.new resource.new }
+        ensures law { RunBegins (plan_floor plan.now) result (state_of self.new)
+            (R.meaning.seen resource.new) }
     {
         may_start(plan, resource)?;
         *self = Dispatcher::begin(plan, resource);

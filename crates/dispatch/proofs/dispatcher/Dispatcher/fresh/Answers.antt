@@ -1,15 +1,22 @@
-use Rattle.dispatch.specs.Start.{Fresh}
-use Rattle.dispatch.proofs.Starts.{fresh-idle, started}
-use Rattle.runs.specs.Run.{start}
+use Rattle.std.proofs.Common.{refl}
+use Rattle.runs.specs.State.{fresh}
+use Rattle.dispatch.specs.View.{state_of}
+use Rattle.dispatch.proofs.Later.{nothing-recorded}
+use Rattle.dispatch.proofs.Starts.{started}
 use Rattle.dispatch.proofs.dispatcher.Dispatcher.fresh.Goals as goal
 
-pub idle-requires : goal.idle-requires
-idle-requires c = c.full_ages.ensures.places
+pub returns-clause-state : goal.returns-clause-state
+unfolding state_of fresh
+returns-clause-state c =
+    let jobs = c.first_jobs.ensures in
+    record {
+      age = jobs.age;
+      left = jobs.left;
+      holder = refl;
+      under = refl;
+      ran = refl;
+      recorded = λ w k l m. nothing-recorded c.empty.result c.empty.ensures.members 8 w k;
+    }
 
-pub returns : goal.returns
-returns c =
-    let p = c.args.plan.now in
-    let d = c.idle.result in
-    let same = c.idle.ensures.plan in
-    let new : Fresh d = fresh-idle p c.full_ages.result c.empty.result d c.idle.ensures c.full_ages.ensures c.empty.ensures in
-    record { plan = same; state = new; begun = started p d same new; law = λ y ready. start (started p d same new y ready) }
+pub returns-clause-started : goal.returns-clause-started
+returns-clause-started c y ready = started c.args.plan.now _ refl (returns-clause-state c) y ready

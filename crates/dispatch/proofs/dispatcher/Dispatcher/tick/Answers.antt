@@ -1,7 +1,7 @@
-use Rattle.std.proofs.Common.{refl}
 use Rattle.dispatch.proofs.dispatcher.Dispatcher.tick.Goals as goal
 
-pub returns-in_default : goal.returns-in_default
-returns-in_default g c =
-    let x = g.R.Resource.meaning.seen c.args.resource.now in
-    record { plan = c.note_rest.ensures.plan; step = c.note_rest.ensures.step x x refl; call = refl; law = c.note_rest.ensures.law x x refl }
+pub returns-in-Rest-clause-goes_on : goal.returns-in-Rest-clause-goes_on
+returns-in-Rest-clause-goes_on g c = c.note_rest.ensures (g.R.Resource.meaning.seen c.args.resource.now)
+
+pub returns-in-Run-clause-goes_on : goal.returns-in-Run-clause-goes_on
+returns-in-Run-clause-goes_on g c = c.note_run-ended.ensures _ _ c.run_call.ensures.within
