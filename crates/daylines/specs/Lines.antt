@@ -25,13 +25,18 @@ abbrev pub with_answer : List ℕ → List ℕ → Result (Unit {0}) CallFault �
 with_answer out w (Ok u) = out ++ w
 with_answer out w (Err e) = with_refusal out (call_told e)
 
+-- a call by its verb and a name, and its answer
+abbrev pub with_called : List ℕ → List ℕ → List ℕ → List ℕ → Result (Unit {0}) CallFault → List ℕ
+with_called out verb name w r =
+    with_answer (((out ++ verb) ++ name) ++ codes ": ") w r ++ codes "\n"
+
 -- an announcement by a name, and its answer
 abbrev pub with_announced : List ℕ → List ℕ → Result (Unit {0}) CallFault → List ℕ
-with_announced out name r = with_answer (((out ++ codes "announce ") ++ name) ++ codes ": ") (codes "taken") r ++ codes "\n"
+with_announced out name r = with_called out (codes "announce ") name (codes "taken") r
 
 -- a finish by a name, and its answer
 abbrev pub with_finished : List ℕ → List ℕ → Result (Unit {0}) CallFault → List ℕ
-with_finished out name r = with_answer (((out ++ codes "finish ") ++ name) ++ codes ": ") (codes "finished") r ++ codes "\n"
+with_finished out name r = with_called out (codes "finish ") name (codes "finished") r
 
 -- a task's name out of the table text; empty where there is no task
 abbrev pub name_at : List ℕ → Result Task DraftFault → List ℕ
@@ -45,7 +50,9 @@ with_progress out UnderWay = out ++ codes "under way"
 
 -- a scrub call on a way for a task
 abbrev pub with_scrub : List ℕ → List ℕ → ℕ → Progress → List ℕ
-with_scrub out name w p = with_progress (((((out ++ codes "scrub way ") ++ decimal w) ++ codes " for ") ++ name) ++ codes ", ") p
+with_scrub out name w p =
+    let first = ((out ++ codes "scrub way ") ++ decimal w) ++ codes " for " in
+    with_progress ((first ++ name) ++ codes ", ") p
 
 -- that a job has ended, where it has
 abbrev pub with_end : List ℕ → Bool → List ℕ
@@ -63,4 +70,5 @@ with_tick out text tasks (Run i ended) = with_run out (name_at text (task_at tas
 
 -- a tick by its number, and its answer
 abbrev pub with_ticked : List ℕ → List ℕ → List Task → ℕ → TickAnswer → List ℕ
-with_ticked out text tasks n a = with_tick (((out ++ codes "tick ") ++ decimal n) ++ codes ": ") text tasks a ++ codes "\n"
+with_ticked out text tasks n a =
+    with_tick (((out ++ codes "tick ") ++ decimal n) ++ codes ": ") text tasks a ++ codes "\n"

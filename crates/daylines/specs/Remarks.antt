@@ -6,17 +6,25 @@ use Rattle.daylines.specs.declared.book.Book.{Book}
 abbrev pub with_counted : List ℕ → List ℕ → ℕ → List ℕ
 with_counted out label n = (out ++ label) ++ decimal n
 
+-- a remark of one count of batches
+abbrev pub with_batches : List ℕ → List ℕ → ℕ → List ℕ
+with_batches out label n = with_counted (out ++ codes "# batches ") label n ++ codes "\n"
+
 -- the batches taken
 abbrev pub with_taken : List ℕ → Book → List ℕ
 with_taken out b = with_counted (out ++ codes "# batches ") (codes "taken: ") b.taken ++ codes "\n"
 
 -- those refused, by their refusals
 abbrev pub with_refused : List ℕ → Book → List ℕ
-with_refused out b = with_counted (with_counted (out ++ codes "# batches ") (codes "refused: ") b.early ++ codes " too early") (codes ", ") b.unlisted ++ codes " unlisted\n"
+with_refused out b =
+    let early = with_counted (out ++ codes "# batches ") (codes "refused: ") b.early in
+    with_counted (early ++ codes " too early") (codes ", ") b.unlisted ++ codes " unlisted\n"
 
 -- those ended with their budget, and those finished by call
 abbrev pub with_ends : List ℕ → Book → List ℕ
-with_ends out b = with_counted (with_counted (out ++ codes "# batches ") (codes "ended: ") b.spent ++ codes " by budget") (codes ", ") b.called ++ codes " by call\n"
+with_ends out b =
+    let spent = with_counted (out ++ codes "# batches ") (codes "ended: ") b.spent in
+    with_counted (spent ++ codes " by budget") (codes ", ") b.called ++ codes " by call\n"
 
 -- the batches taken that have not ended
 abbrev pub unended : Book → ℕ
@@ -24,19 +32,25 @@ unended b = b.taken - b.spent - b.called
 
 -- how many they are
 abbrev pub with_unended : List ℕ → Book → List ℕ
-with_unended out b = with_counted (out ++ codes "# batches ") (codes "unended: ") (unended b) ++ codes "\n"
+with_unended out b =
+    with_counted (out ++ codes "# batches ") (codes "unended: ") (unended b) ++ codes "\n"
 
 -- the finishes refused, by their refusals
 abbrev pub with_finishes : List ℕ → Book → List ℕ
-with_finishes out b = with_counted (with_counted (out ++ codes "# finishes") (codes " refused: ") b.idle ++ codes " not") (codes " running, ") b.strange ++ codes " unlisted\n"
+with_finishes out b =
+    let idle = with_counted (out ++ codes "# finishes") (codes " refused: ") b.idle in
+    with_counted (idle ++ codes " not") (codes " running, ") b.strange ++ codes " unlisted\n"
 
 -- the ticks spent scrubbing, and the allowances
 abbrev pub with_scrubs : List ℕ → Book → List ℕ
-with_scrubs out b = with_counted (with_counted (out ++ codes "# scrub ") (codes "ticks: ") b.scrubs ++ codes ",") (codes " allowed: ") b.allowed ++ codes "\n"
+with_scrubs out b =
+    let ticks = with_counted (out ++ codes "# scrub ") (codes "ticks: ") b.scrubs in
+    with_counted (ticks ++ codes ",") (codes " allowed: ") b.allowed ++ codes "\n"
 
--- the most ticks that a batch of task i has taken to its end; 0 where none has ended, and past the sixteen tasks
+-- the most ticks that a batch of task i has taken to its end; 0 where none has, and past sixteen
 abbrev pub worst_at : Book → ℕ → ℕ
-worst_at b i = cond (nat_lt i 16) (slice_index_or b.watches i (record { since = 0; worst = 0 })).worst 0
+worst_at b i =
+    cond (nat_lt i 16) (slice_index_or b.watches i (record { since = 0; worst = 0 })).worst 0
 
 -- a worst response
 abbrev pub with_worst : List ℕ → ℕ → List ℕ
@@ -48,4 +62,6 @@ with_worst_or out ticks = cond (ticks == 0) (out ++ codes ": no end") (with_wors
 
 -- a task's worst response, and its bound
 abbrev pub with_response : List ℕ → List ℕ → ℕ → ℕ → List ℕ
-with_response out name ticks bound = with_counted (with_worst_or ((out ++ codes "# ") ++ name) ticks) (codes ", bound ") bound ++ codes "\n"
+with_response out name ticks bound =
+    let worst = with_worst_or ((out ++ codes "# ") ++ name) ticks in
+    with_counted worst (codes ", bound ") bound ++ codes "\n"

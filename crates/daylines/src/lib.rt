@@ -1,4 +1,4 @@
-// What is told of a day: a line for each call and each tick, and remarks that sum it up for people.
+//! What is told of a day: a line for each call and each tick, and remarks that sum it up for people.
 #![tactic(auto)]
 
 pub mod answers;

@@ -1,39 +1,40 @@
-// What was read from a table text, listed for people: each task and each pair, or why the text was refused.
+//! What was read from a table text, listed for people: each task and each pair, or why the text was refused.
 #![tactic(auto)]
 
-ghost use Rattle.std.specs.Prelude.{◌≡◌, IfOk, OnOk};
-ghost use Rattle.taskset.specs.Table.{count, task_at};
-ghost use Rattle.taskset.specs.View.{table};
+ghost use Rattle.std.specs.Prelude.{◌≡◌, Ok, IfOk, OnOk};
+ghost use Rattle.taskset.specs.Table.{count};
 ghost use Rattle.tabletext.specs.Read.{read_text};
-ghost use Rattle.listing.specs.Listing.{listing as listing_of, with_figures, with_kind, with_pair, with_pair_if, with_pairs, with_pairs_to, with_task_at, with_tasks, with_times, with_way, with_ways};
+ghost use Rattle.listing.specs.Listing.{listing as listing_of, with_figures, with_kind, with_pair_if, with_pairs, with_pairs_to, with_task_at, with_tasks, with_times, with_way, with_ways};
 
 use printed::{bytes, no, number, text as put};
-use sets::way_set::WaySet;
+use sets::number_set::WaySet;
 use std::alloc::{AllocError, Global};
 use tabletext::text::read;
 use taskset::draft::Draft;
-use taskset::task::{Figures, Kind};
+use taskset::task::{Figures, Kind, Task};
 
 // The digit of the way, if it is in the set.
-fn list_way(heap: Global, out: &mut Vec<u8>, ways: WaySet, way: u8) -> Result<(), AllocError>
+fn list_way(out: &mut Vec<u8>, ways: WaySet, way: u8) -> Result<(), AllocError>
     ensures { OnOk result (out.new.items ≡ with_way out.old.items ways way) }
 {
     if ways.contains(way) {
-        number(heap, out, u64::from(way))?;
+        number(out, way)?;
     }
     Ok(())
 }
 
 // The digits of the ways, rising.
-fn list_ways(heap: Global, out: &mut Vec<u8>, ways: WaySet) -> Result<(), AllocError>
+#[tactic(auto, using(crate::proofs::Steps::with_ways_more))]
+fn list_ways(out: &mut Vec<u8>, ways: WaySet) -> Result<(), AllocError>
     ensures { OnOk result (out.new.items ≡ with_ways out.old.items ways 8) }
 {
     for way in 0..8u8 {
-        list_way(heap, out, ways, way)?;
+        list_way(out, ways, way)?;
     }
     Ok(())
 }
 
+// Two words by a match, as an `impl Display` would have them, and with them the end of the line.
 fn list_kind(out: &mut Vec<u8>, kind: Kind) -> Result<(), AllocError>
     ensures { OnOk result (out.new.items ≡ with_kind out.old.items kind) }
 {
@@ -43,136 +44,119 @@ fn list_kind(out: &mut Vec<u8>, kind: Kind) -> Result<(), AllocError>
     }
 }
 
-fn list_times(heap: Global, out: &mut Vec<u8>, f: Figures) -> Result<(), AllocError>
-    ensures { OnOk result (out.new.items ≡ with_times out.old.items f) }
+fn list_times(out: &mut Vec<u8>, f: &Figures) -> Result<(), AllocError>
+    ensures { OnOk result (out.new.items ≡ with_times out.old.items f.now) }
 {
     put(out, " period ")?;
-    number(heap, out, u64::from(f.period))?;
+    number(out, f.period)?;
     put(out, " budget ")?;
-    number(heap, out, u64::from(f.budget))?;
+    number(out, f.budget)?;
     put(out, " deadline ")?;
-    number(heap, out, u64::from(f.deadline))?;
-    Ok(())
+    number(out, f.deadline)
 }
 
-fn list_figures(heap: Global, out: &mut Vec<u8>, f: Figures) -> Result<(), AllocError>
-    ensures { OnOk result (out.new.items ≡ with_figures out.old.items f) }
+fn list_figures(out: &mut Vec<u8>, f: &Figures) -> Result<(), AllocError>
+    ensures { OnOk result (out.new.items ≡ with_figures out.old.items f.now) }
 {
-    list_times(heap, out, f)?;
+    list_times(out, f)?;
     put(out, " ways ")?;
-    list_ways(heap, out, f.ways)?;
-    list_kind(out, f.kind)?;
-    Ok(())
+    list_ways(out, f.ways)?;
+    list_kind(out, f.kind)
 }
 
 // The line of one task.
-fn list_task(
-    heap: Global,
-    out: &mut Vec<u8>,
-    draft: &Draft,
-    i: u8,
-    text: &[u8],
-) -> Result<(), AllocError>
-    ensures { OnOk result (out.new.items ≡ with_task_at out.old.items text.now i (task_at (table draft.now).tasks i)) }
+fn list_task(out: &mut Vec<u8>, i: usize, task: &Task, text: &[u8]) -> Result<(), AllocError>
+    ensures { OnOk result (out.new.items ≡ with_task_at out.old.items text.now i (Ok task.now)) }
 {
-    let Ok(figures) = draft.figures(i) else {
-        return Ok(());
-    };
-    let Ok(name) = draft.name(i, text) else {
-        return Ok(());
-    };
     put(out, "task ")?;
-    number(heap, out, u64::from(i))?;
+    number(out, i)?;
     put(out, " ")?;
-    bytes(out, name)?;
-    list_figures(heap, out, figures)?;
-    Ok(())
+    bytes(out, task.name.within(text))?;
+    list_figures(out, &task.figures)
 }
 
-fn list_tasks(heap: Global, out: &mut Vec<u8>, draft: &Draft, text: &[u8]) -> Result<(), AllocError>
-    ensures { OnOk result (out.new.items ≡ with_tasks out.old.items text.now (table draft.now) (count (table draft.now))) }
-{
-    for i in 0..draft.count() {
-        list_task(heap, out, draft, i, text)?;
+// A draft, and the text that it was read from. Its own type: it lends both, and knows nothing of them. A type for every draft with its
+// text would carry what is known where one is written to, or where names are short.
+#[derive(Clone, Copy)]
+struct Source<'t> {
+    draft: &'t Draft,
+    text: &'t [u8],
+}
+
+impl<'t> Source<'t> {
+    // The lines of the tasks.
+    fn list_tasks(self, out: &mut Vec<u8>) -> Result<(), AllocError>
+        ensures { let t = self.entry.draft.now in
+            OnOk result (out.new.items ≡ with_tasks out.old.items self.entry.text.now t (count t)) }
+    {
+        for (i, task) in self.draft.tasks().iter().enumerate() {
+            list_task(out, i, task, self.text)?;
+        }
+        Ok(())
     }
-    Ok(())
-}
 
-// The line of one pair, by the names of its tasks.
-fn list_pair(
-    out: &mut Vec<u8>,
-    draft: &Draft,
-    from: u8,
-    to: u8,
-    text: &[u8],
-) -> Result<(), AllocError>
-    ensures { OnOk result (out.new.items ≡ with_pair out.old.items text.now (task_at (table draft.now).tasks from) (task_at (table draft.now).tasks to)) }
-{
-    let Ok(before) = draft.name(from, text) else {
-        return Ok(());
-    };
-    let Ok(after) = draft.name(to, text) else {
-        return Ok(());
-    };
-    put(out, "noleak ")?;
-    bytes(out, before)?;
-    put(out, " ")?;
-    bytes(out, after)?;
-    put(out, "\n")?;
-    Ok(())
-}
-
-// The same, if the pair stands.
-fn list_pair_if(
-    out: &mut Vec<u8>,
-    draft: &Draft,
-    from: u8,
-    to: u8,
-    text: &[u8],
-) -> Result<(), AllocError>
-    ensures { OnOk result (out.new.items ≡ with_pair_if out.old.items text.now (table draft.now) to from) }
-{
-    let Ok(stands) = draft.has_pair(from, to) else {
-        return Ok(());
-    };
-    if stands {
-        list_pair(out, draft, from, to, text)?;
+    // The line of one pair, by the names of its tasks, if it stands.
+    fn list_pair(self, out: &mut Vec<u8>, from: u8, to: u8) -> Result<(), AllocError>
+        ensures { let t = self.entry.draft.now in
+            OnOk result (out.new.items ≡ with_pair_if out.old.items self.entry.text.now t to from) }
+    {
+        let names = (
+            self.draft.name(from, self.text),
+            self.draft.name(to, self.text),
+        );
+        let (Ok(true), (Ok(before), Ok(after))) = (self.draft.has_pair(from, to), names) else {
+            return Ok(());
+        };
+        put(out, "noleak ")?;
+        bytes(out, before)?;
+        put(out, " ")?;
+        bytes(out, after)?;
+        put(out, "\n")
     }
-    Ok(())
-}
 
-// The lines of the pairs to one task.
-fn list_pairs_to(out: &mut Vec<u8>, draft: &Draft, to: u8, text: &[u8]) -> Result<(), AllocError>
-    ensures { OnOk result (out.new.items ≡ with_pairs_to out.old.items text.now (table draft.now) to (count (table draft.now))) }
-{
-    for from in 0..draft.count() {
-        list_pair_if(out, draft, from, to, text)?;
+    // The lines of the pairs to one task. By number, since a pair is asked for by its tasks' numbers.
+    #[tactic(auto, using(crate::proofs::Steps::with_pairs_to_more))]
+    fn list_pairs_to(self, out: &mut Vec<u8>, to: u8) -> Result<(), AllocError>
+        ensures { let t = self.entry.draft.now in
+            OnOk result (out.new.items
+            ≡ with_pairs_to out.old.items self.entry.text.now t to (count t)) }
+    {
+        for from in 0..self.draft.count() {
+            self.list_pair(out, from, to)?;
+        }
+        Ok(())
     }
-    Ok(())
-}
 
-fn list_pairs(out: &mut Vec<u8>, draft: &Draft, text: &[u8]) -> Result<(), AllocError>
-    ensures { OnOk result (out.new.items ≡ with_pairs out.old.items text.now (table draft.now) (count (table draft.now))) }
-{
-    for to in 0..draft.count() {
-        list_pairs_to(out, draft, to, text)?;
+    // The lines of all pairs.
+    #[tactic(auto, using(crate::proofs::Steps::with_pairs_more))]
+    fn list_pairs(self, out: &mut Vec<u8>) -> Result<(), AllocError>
+        ensures { let t = self.entry.draft.now in
+            OnOk result (out.new.items ≡ with_pairs out.old.items self.entry.text.now t (count t)) }
+    {
+        for to in 0..self.draft.count() {
+            self.list_pairs_to(out, to)?;
+        }
+        Ok(())
     }
-    Ok(())
 }
 
-// Reads the text, and lists what it says or why it was refused.
-pub fn listing(heap: Global, text: &[u8]) -> Result<Vec<u8>, AllocError>
+/// Reads the text, and lists what it says or why it was refused.
+pub fn listing(alloc: Global, text: &[u8]) -> Result<Vec<u8>, AllocError>
     ensures { IfOk result (λ v. v.items ≡ listing_of text.now (read_text text.now)) }
 {
-    let mut out = Vec::new(heap);
+    let mut out = Vec::new(alloc);
     let mut draft = Draft::empty();
     match read(text, &mut draft) {
         Ok(()) => {
-            list_tasks(heap, &mut out, &draft, text)?;
-            list_pairs(&mut out, &draft, text)?;
+            let source = Source {
+                draft: &draft,
+                text,
+            };
+            source.list_tasks(&mut out)?;
+            source.list_pairs(&mut out)?;
         }
         Err(fault) => {
-            no(heap, &mut out, &fault)?;
+            no(&mut out, &fault)?;
             put(&mut out, "\n")?;
         }
     }

@@ -1,57 +1,87 @@
--- The lines of a report: how long they are, and how they follow one another.
-use Rattle.std.proofs.Common.{◌≡◌, ℕ, zero, suc, ◌+◌, ◌^◌, ◌<◌, ◌≤◌, List, [], ◌∷◌, ◌++◌, length, Ok, Err, codes, decimal, Result, sym, refl, ap, arith, length-append}
+-- How long the lines of a report are.
+use Rattle.std.proofs.Common.{◌≡◌, ℕ, zero, suc, ◌+◌, ◌^◌, ◌<◌, ◌≤◌, List, [], ◌∷◌, ◌++◌, length, get_or, Ok, decimal, ap, add-one, arith, length-append, drop, refl, subst, ◌∙◌}
 use Rattle.std.proofs.lemmas.Fmt.{length-decimal-le}
-use Rattle.std.proofs.lemmas.List.Edits.{paste_none}
+use Rattle.std.proofs.lemmas.List.{take_all}
 use Rattle.std.specs.List.{AllByRecursion}
 use Rattle.tabletext.specs.Laws.{WellNamed}
-use Rattle.taskset.specs.declared.fault.DraftFault.{DraftFault}
 use Rattle.taskset.specs.declared.task.Task.{Task}
-use Rattle.taskset.specs.Table.{task_at, name_of}
-use Rattle.report.specs.Page.{put, row}
-use Rattle.report.specs.Rows.{row_of}
-use Rattle.report.proofs.Puts.{length-row, more}
+use Rattle.taskset.specs.Table.{Table, IsLawful, count, task_at, name_in}
+use Rattle.taskset.proofs.Tables.{task-there}
+use Rattle.report.specs.Names.{AreShort}
+use Rattle.report.specs.Page.{line, row}
+use Rattle.report.specs.Report.{Settled}
+use Rattle.report.specs.Rows.{rows_below}
+use Rattle.report.proofs.Box.{both-small}
 
--- an answer that is not refused is not a refusal
-ok-err : {A E : Type 0} {a : A} {e : E} → ◌≡◌ {A = Result A E} (Ok a) (Err e) → ⊥
-ok-err h = let z : ◌≡◌ {A = ℕ} 0 1 = cc in omega arith
+-- names that were read have at most 16 bytes
+pub short-names : (text : List ℕ) (ts : List Task) → AllByRecursion (WellNamed text) ts → AreShort text ts
+short-names text [] w i d h = absurd (omega arith)
+short-names text (t ∷ ts) w zero d h = omega (arith, w.0.length, w.0.few)
+short-names text (t ∷ ts) w (suc i) d h = short-names text ts w.1 i d (omega arith)
 
-ok_ok : {A E : Type 0} {a b : A} → ◌≡◌ {A = Result A E} (Ok a) (Ok b) → a ≡ b
-ok_ok h = cc
+-- a number of 64 bits has at most 20 digits
+pub twenty-digits : (n : ℕ) → n < 2 ^ 64 → length (decimal n) ≤ 20
+twenty-digits n h = length-decimal-le 20 n (omega arith) (omega arith) h
 
--- a name that was read has at most 16 bytes
-pub name-short : (text : List ℕ) (ts : List Task) (i : ℕ) (name : List ℕ) → AllByRecursion (WellNamed text) ts → Ok name ≡ name_of text (task_at ts i) → length name ≤ 16
-name-short text [] i name w e = absurd (ok-err e)
-name-short text (t ∷ ts) zero name w e = omega (arith, ap length (ok_ok e), w.0.length, w.0.few)
-name-short text (t ∷ ts) (suc i) name w e = name-short text ts i name w.1 e
+-- the parts of a line are short
+pub record ShortParts (name : List ℕ) (first second : ℕ) : Type 0 where
+  pub name_short : length name ≤ 16
+  pub first_short : length (decimal first) ≤ 7
+  pub second_short : length (decimal second) ≤ 7
 
--- a task's line by its name
-pub row_named : (text : List ℕ) (o : Result Task DraftFault) (name : List ℕ) (b s : ℕ) → Ok name ≡ name_of text o → row name b s ≡ row_of text o b s
-row_named text (Ok t) name b s e = ap (λ (n : List ℕ). row n b s) (ok_ok e)
-row_named text (Err x) name b s e = absurd (ok-err e)
+-- those of each task's line are
+pub short-parts : (text : List ℕ) (t : Table) (bounds slacks : List ℕ) (xs : List Task) (i : ℕ) (d : Task) →
+    IsLawful t → AreShort text t.tasks → Settled t bounds slacks → xs ≡ t.tasks → i < length xs →
+    ShortParts (name_in text (get_or xs i d).name) (get_or bounds i 0) (get_or slacks i 0)
+short-parts text t bounds slacks xs i d law names s e h =
+    let there : i < count t = omega (arith, ap length e) in
+    let small = both-small t bounds slacks i law s there in
+    record {
+      name_short = rw e (names i d there);
+      first_short = length-decimal-le 7 _ (omega arith) small.0 (omega (arith, small.0));
+      second_short = length-decimal-le 7 _ (omega arith) small.1 (omega (arith, small.1));
+    }
 
-pub row-none : (text : List ℕ) (o : Result Task DraftFault) (x : DraftFault) (b s : ℕ) → Err x ≡ name_of text o → row_of text o b s ≡ []
-row-none text (Ok t) x b s e = absurd (ok-err (sym e))
-row-none text (Err y) x b s e = refl
+-- and the line has at most 33 bytes
+pub row-short : (name : List ℕ) (b s : ℕ) → ShortParts name b s → length (row name b s) ≤ 33
+unfolding line
+row-short name b s p = simp length-append (omega arith)
 
--- a line has at most 33 bytes
-pub row-short : (name : List ℕ) (b s : ℕ) → length name ≤ 16 → b < 10000000 → s < 10000000 → length (row name b s) ≤ 33
-row-short name b s n lb ls =
-    let db : length (decimal b) ≤ 7 = length-decimal-le 7 b (omega arith) (omega arith) (omega arith) in
-    let ds : length (decimal s) ≤ 7 = length-decimal-le 7 s (omega arith) (omega arith) (omega arith) in
-    omega (arith, length-row name b s)
+-- one line more, by the task itself
+pub rows_below-more : (text : List ℕ) (ts xs : List Task) (bounds slacks : List ℕ) (i : ℕ) (d : Task) →
+    xs ≡ ts → i < length xs →
+    let name = name_in text (get_or xs i d).name in
+    rows_below text ts bounds slacks i ++ row name (get_or bounds i 0) (get_or slacks i 0)
+    ≡ rows_below text ts bounds slacks (i + 1)
+rows_below-more text ts xs bounds slacks i d e h =
+    let all : length xs ≤ length xs = omega arith in
+    let there : task_at ts i ≡ Ok (get_or xs i d) =
+    rw (← e) (rw (take_all (length xs) xs all) at (task-there xs (length xs) i d h all)) in
+    rw (add-one, there)
 
--- nothing written
-pub put-none : (d : List ℕ) (at : ℕ) → d ≡ put d at []
-unfolding put
-put-none d at = paste_none d at []
+-- what the next of a list from a place on is
+pub next-of : {X : Type 0} (xs : List X) (n : ℕ) (x : X) (rest : List X) → drop n xs ≡ x ∷ rest →
+    (n < length xs) × ((d : X) → get_or xs n d ≡ x) × (rest ≡ drop (suc n) xs)
+next-of [] zero x rest e = absurd cc
+next-of [] (suc n) x rest e = absurd cc
+next-of (y ∷ xs) zero x rest e = (omega arith, λ d. cc, cc)
+next-of (y ∷ xs) (suc n) x rest e = let r = next-of xs n x rest e in (omega (arith, r.0), r.1, r.2)
 
--- one line more
-pub one_more : (d e f : List ℕ) (at next : ℕ) (rows line : List ℕ) → at ≡ length rows → e ≡ put d 0 rows → next ≡ at + length line → f ≡ put e at line → (next ≡ length (rows ++ line)) × (f ≡ put d 0 (rows ++ line))
-one_more d e f at next rows line p q r s = (omega (arith, length-append rows line), more d e f 0 at rows line (omega arith) q (omega arith) s)
+-- a list with one more
+pub one-more : {X : Type 0} (xs : List X) (x : X) → length (xs ++ x ∷ []) ≡ suc (length xs)
+one-more [] x = refl
+one-more (y ∷ xs) x = ap suc (one-more xs x)
 
--- a refusal's line has at most 45 bytes
-pub refusal-short : (number detail : ℕ) → number < 2 ^ 64 → detail < 2 ^ 64 → length (row (codes "no") number detail) ≤ 45
-refusal-short number detail n d =
-    let dn : length (decimal number) ≤ 20 = length-decimal-le 20 number (omega arith) (omega arith) n in
-    let dd : length (decimal detail) ≤ 20 = length-decimal-le 20 detail (omega arith) (omega arith) d in
-    omega (arith, length-row (codes "no") number detail)
+-- the parts of the line of the next task are short
+pub short-next : (text : List ℕ) (t : Table) (bounds slacks : List ℕ) (i : ℕ) (d : Task) (w : List ℕ) (b s : ℕ) →
+    IsLawful t → AreShort text t.tasks → Settled t bounds slacks → i < length t.tasks → w ≡ name_in text d.name → get_or t.tasks i d ≡ d → get_or bounds i 0 ≡ b → get_or slacks i 0 ≡ s → ShortParts w b s
+short-next text t bounds slacks i d w b s law names st h p q u v =
+    rw (p, ← u, ← v) (subst (λ (x : Task). ShortParts (name_in text x.name) (get_or bounds i 0) (get_or slacks i 0)) q (short-parts text t bounds slacks t.tasks i d law names st refl h))
+
+-- and with that line there is one row more
+pub rows-next : (text : List ℕ) (ts : List Task) (bounds slacks : List ℕ) (i : ℕ) (d : Task) (w : List ℕ) (b s : ℕ) →
+    i < length ts → w ≡ name_in text d.name → get_or ts i d ≡ d → get_or bounds i 0 ≡ b → get_or slacks i 0 ≡ s → rows_below text ts bounds slacks i ++ row w b s ≡ rows_below text ts bounds slacks (suc i)
+rows-next text ts bounds slacks i d w b s h p q u v =
+    let rows = rows_below text ts bounds slacks in
+    let next : i + 1 ≡ suc i = omega arith in
+    rw (p, ← u, ← v) (subst (λ (x : Task). rows i ++ row (name_in text x.name) (get_or bounds i 0) (get_or slacks i 0) ≡ rows (suc i)) q (rows_below-more text ts ts bounds slacks i d refl h ∙ ap rows next))

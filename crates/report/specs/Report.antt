@@ -23,11 +23,10 @@ pub record Settled (t : Table) (bounds slacks : List ℕ) : Type 0 where
   pub bound : (i : ℕ) → i < count t → InTime (box_floor t) i (slice_index bounds i)
   pub slack : (i : ℕ) → i < count t → slice_index slacks i ≡ (box_floor t).deadline i - slice_index bounds i
 
--- the same of two lists of sixteen zeros, where the analysis did not refuse
-abbrev pub SettledIf : Table → Result (Unit {0}) AnalysisFault → List ℕ → List ℕ → Type 0
-SettledIf t (Ok u) bounds slacks =
-    Settled t bounds slacks × (length bounds ≡ 16) × (length slacks ≡ 16) × ((k : ℕ) → slice_index bounds k < 10000000) × ((k : ℕ) → slice_index slacks k < 10000000)
-SettledIf t (Err e) bounds slacks = Unit {0}
+-- what was answered, without the value
+abbrev pub answer_of : {A E : Type 0} → Result A E → Result (Unit {0}) E
+answer_of (Ok a) = Ok tt
+answer_of (Err e) = Err e
 
 -- these bytes now stand at the buffer's beginning, r is their number, and the later bytes are as they were
 pub record Stands (before bytes : List ℕ) (r : ℕ) (after : List ℕ) : Type 0 where

@@ -13,4 +13,6 @@ row_of text (Err e) bound slack = []
 -- the lines of the tasks below n, with their bounds and slacks from two lists
 abbrev pub rows_below : List ℕ → List Task → List ℕ → List ℕ → ℕ → List ℕ
 rows_below text ts bounds slacks zero = []
-rows_below text ts bounds slacks (suc i) = rows_below text ts bounds slacks i ++ row_of text (task_at ts i) (slice_index bounds i) (slice_index slacks i)
+rows_below text ts bounds slacks (suc i) =
+    rows_below text ts bounds slacks i
+    ++ row_of text (task_at ts i) (slice_index bounds i) (slice_index slacks i)

@@ -1,8 +1,7 @@
-// The verdict on a draft, on an empty way cache of eight ways.
-ghost use Rattle.std.specs.Prelude.{◌≡◌, length, replicate};
+//! The verdict on a draft, on an empty way cache of eight ways.
+ghost use Rattle.std.specs.Prelude.{IfOk};
 ghost use Rattle.analysis.specs.Verdict.{Verdict};
-ghost use Rattle.taskset.specs.View.{table};
-ghost use Rattle.report.specs.Report.{box_floor, SettledIf};
+ghost use Rattle.report.specs.Report.{answer_of, box_floor, Settled};
 
 use analysis::analyse::analyse;
 use analysis::fault::AnalysisFault;
@@ -10,15 +9,23 @@ use analysis::plan::Plan;
 use taskset::draft::Draft;
 use way_cache::cache::WayCache;
 
-// Each bound and slack goes to its task's place in a list of sixteen zeros.
-pub fn judge(draft: &Draft, bounds: &mut [u32], slacks: &mut [u32]) -> Result<(), AnalysisFault>
-    requires bounds_fresh { bounds.old ≡ replicate 16 0 }
-    requires slacks_fresh { slacks.old ≡ replicate 16 0 }
-    ensures verdict { Verdict (box_floor (table draft.now)) 8 16 result }
-    ensures settled { SettledIf (table draft.now) result bounds.new slacks.new }
+/// The bound and the slack of each task, at the place of its number, and zeros at the later ones.
+// Two lists, since the analysis fills two.
+#[derive(Clone, Copy)]
+pub struct Margins {
+    pub bounds: [u32; 16],
+    pub slacks: [u32; 16],
+}
+
+/// The bound and the slack of each task, where the draft is accepted.
+pub fn judge(draft: &Draft) -> Result<Margins, AnalysisFault>
+    ensures verdict { Verdict (box_floor draft.now) 8 16 (answer_of result) }
+    ensures settled { IfOk result (λ m. Settled draft.now m.bounds m.slacks) }
 {
     let mut memory = [255u8; 256];
     let cache = WayCache::empty_over(&mut memory);
     let mut plan = Plan::empty();
-    analyse(draft, &cache, bounds, slacks, &mut plan)
+    let (mut bounds, mut slacks) = ([0; 16], [0; 16]);
+    analyse(draft, &cache, &mut bounds, &mut slacks, &mut plan)?;
+    Ok(Margins { bounds, slacks })
 }

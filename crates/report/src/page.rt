@@ -1,49 +1,62 @@
-// Bytes, numbers and lines written one after another into a lent buffer. Each answers the place after what it wrote.
-ghost use Rattle.std.specs.Prelude.{◌≡◌, ◌+◌, ◌<◌, ◌≤◌, [], ◌∷◌, length, decimal};
-ghost use Rattle.report.specs.Page.{put, row};
+//! Bytes, numbers and lines written one after another into a lent buffer.
+ghost use Rattle.std.specs.Prelude.{◌≡◌, ◌+◌, ◌≤◌, length};
 
-fn put_byte(buf: &mut [u8], at: usize, b: u8) -> usize
-    requires { at < length buf.old }
-    ensures place { result ≡ at + 1 }
-    ensures after { buf.new ≡ put buf.old at (b ∷ []) }
-{
-    buf[at] = b;
-    at + 1
+use itoa::{Buffer, Integer};
+
+/// A lent buffer, the first `len` bytes of which are written.
+// Tried with a model: that hides which buffer it is, and what the lent buffer holds once the page is gone stayed unproved.
+#[derive(Drop)]
+pub struct Page<'a> {
+    buffer: &'a mut [u8],
+    len: usize,
+    ghost within: { len ≤ length buffer.now },
 }
 
-fn put_bytes(buf: &mut [u8], at: usize, bytes: &[u8]) -> usize
-    requires { at + length bytes.now ≤ length buf.old }
-    ensures place { result ≡ at + length bytes.now }
-    ensures after { buf.new ≡ put buf.old at bytes.now }
-{
-    let end = at + bytes.len();
-    buf[at..end].copy_from_slice(bytes);
-    end
-}
+impl<'a> Page<'a> {
+    ghost use Rattle.report.specs.Page.{line};
+    ghost use Rattle.report.specs.Pages.{HasRoom, IsOver, Writes};
 
-fn put_number(buf: &mut [u8], at: usize, n: u64) -> usize
-    requires { at + length (decimal n) ≤ length buf.old }
-    ensures place { result ≡ at + length (decimal n) }
-    ensures after { buf.new ≡ put buf.old at (decimal n) }
-{
-    if n < 10 {
-        put_byte(buf, at, 48 + n as u8)
-    } else {
-        let next = put_number(buf, at, n / 10);
-        put_byte(buf, next, 48 + (n % 10) as u8)
+    /// Nothing written yet.
+    pub fn over(buffer: &'a mut [u8]) -> Page<'a>
+        ensures { IsOver buffer.entry result }
+    {
+        Page { buffer, len: 0 }
     }
-}
 
-// The line of a task: a word, two numbers, each apart by a space, and the line's end.
-pub fn put_row(buf: &mut [u8], at: usize, word: &[u8], first: u64, second: u64) -> usize
-    requires { at + length (row word.now first second) ≤ length buf.old }
-    ensures place { result ≡ at + length (row word.now first second) }
-    ensures after { buf.new ≡ put buf.old at (row word.now first second) }
-{
-    let a = put_bytes(buf, at, word);
-    let b = put_byte(buf, a, 32);
-    let c = put_number(buf, b, first);
-    let d = put_byte(buf, c, 32);
-    let e = put_number(buf, d, second);
-    put_byte(buf, e, 10)
+    /// How many bytes are written.
+    pub fn len(&self) -> usize
+        ensures { result ≡ self.now.len }
+    {
+        self.len
+    }
+
+    fn put(&mut self, bytes: &[u8])
+        requires { HasRoom self.old (length bytes.now) }
+        ensures { Writes self.old bytes.now self.new }
+    {
+        let end = self.len + bytes.len();
+        self.buffer[self.len..end].copy_from_slice(bytes);
+        self.len = end;
+    }
+
+    fn put_number<N: Integer>(&mut self, n: N)
+        requires { HasRoom self.old (length (N.text n)) }
+        ensures { Writes self.old (N.text n) self.new }
+    {
+        self.put(Buffer::new().format(n).as_bytes());
+    }
+
+    /// A line of a word and two numbers, each apart by a space.
+    pub fn put_row<M: Integer, N: Integer>(&mut self, word: &[u8], first: M, second: N)
+        requires { let digits = length (M.text first) + length (N.text second) in
+            HasRoom self.old (length word.now + digits + 3) }
+        ensures { Writes self.old (line word.now (M.text first) (N.text second)) self.new }
+    {
+        self.put(word);
+        self.put(b" ");
+        self.put_number(first);
+        self.put(b" ");
+        self.put_number(second);
+        self.put(b"\n");
+    }
 }

@@ -1,6 +1,6 @@
-use Rattle.std.proofs.Common.{◌≡◌, vec_items}
+use Rattle.std.proofs.Common.{◌≡◌}
 use Rattle.listing.specs.Listing.{with_ways}
 use Rattle.listing.proofs.list_ways.Given as goal
 
 abbrev pub invariant-loop-way : goal.invariant-loop-way
-invariant-loop-way l = vec_items l.out ≡ with_ways (vec_items l.initial.out) l.ways l.way
+invariant-loop-way l = l.out.items ≡ with_ways l.initial.out.items l.ways l.way
