@@ -1,5 +1,6 @@
 -- Where a day starts in its input, and what is told where it cannot start.
 use Rattle.std.specs.Prelude.{◌≡◌, ℕ, min, List, [], length, take, Some, None, Ok, Err, Option, Result}
+use Rattle.std.specs.Option.{unwrap_or}
 use Rattle.taskset.specs.Table.{Table}
 use Rattle.textparts.specs.Spans.{lines}
 use Rattle.tabletext.specs.declared.fault.TextFault.{TextFault}
@@ -11,8 +12,7 @@ use Rattle.daylines.specs.Lines.{with_no_line, with_odd}
 
 -- a start, or where there is none the end of the input, with no resource
 abbrev pub or_end : Option Go → ℕ → Go
-or_end (Some g) end = g
-or_end None end = record { place = end; pile = None }
+or_end o end = unwrap_or o (record { place = end; pile = None })
 
 -- where the day of an input starts
 abbrev pub start_of : List ℕ → Go

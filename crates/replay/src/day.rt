@@ -1,13 +1,11 @@
-// A day over one resource: the plan, the start, the calls, and the remarks at its end.
-ghost use Rattle.std.specs.Prelude.{◌≡◌, OnOk};
-ghost use Rattle.taskset.specs.View.{table};
+//! A day over one resource: the plan, the start, the calls, and the remarks at its end.
+ghost use Rattle.std.specs.Prelude.{OnOk};
 ghost use Rattle.textparts.specs.View.{to_come};
-ghost use Rattle.analysis.specs.PlanOf.{plan_floor};
-ghost use Rattle.dispatch.specs.Start.{starting};
-ghost use Rattle.replay.specs.Day.{Dayed, Planned};
+ghost use Rattle.replay.specs.Day.{Planned};
 
-use crate::calls::calls;
-use crate::remarks::remarks;
+mod calls;
+mod remarks;
+
 use analysis::analyse::analyse;
 use analysis::plan::Plan;
 use daycalls::go::Pile;
@@ -18,75 +16,62 @@ use pair::Pair;
 use reserve::Reserve;
 use resource::resource::Resource;
 use row_banks::banks::RowBanks;
-use std::alloc::{AllocError, Global};
+use std::alloc::AllocError;
 use taskset::draft::Draft;
 use textparts::reader::Reader;
 use way_cache::cache::WayCache;
 
-// The day of an accepted plan.
-fn run_day<R: Resource>(
-    heap: Global,
-    out: &mut Vec<u8>,
-    plan: &Plan,
-    draft: &Draft,
-    text: &[u8],
-    reader: &mut Reader<'_>,
-    resource: &mut R,
-) -> Result<(), AllocError>
-    ensures { OnOk result (Dayed (starting (plan_floor plan.now) (R.Resource.meaning.seen resource.old)) text.now (table draft.now).tasks plan.now (to_come reader.old) out.old.items out.new.items) }
-{
-    let mut dispatcher = Dispatcher::new();
-    match dispatcher.start(plan, resource) {
-        Err(fault) => {
-            refused(heap, out, &fault)?;
-            Ok(())
-        }
-        Ok(()) => {
-            let mut book = Book::new();
-            calls(
-                heap,
-                out,
-                plan,
-                draft,
-                text,
-                reader,
-                &mut dispatcher,
-                resource,
-                &mut book,
-            )?;
-            remarks(heap, out, plan, draft, text, &book)?;
-            Ok(())
-        }
-    }
+// A day that was started: the draft and the text that it was read from, the plan, what runs by it, and what is counted and told of it.
+#[derive(Drop)]
+struct Day<'t, 'r, R> {
+    draft: &'t Draft,
+    text: &'t [u8],
+    plan: &'t Plan,
+    dispatcher: Dispatcher,
+    resource: &'r mut R,
+    book: Book,
+    out: &'r mut Vec<u8>,
 }
 
-// The day of a table on any resource: its calls up to the reader's last line, each told as it is answered.
+// The output, the draft, the text and the reader stay arguments: `plan_day` and `on_pile` are public, and a struct of the four would be one
+// more thing that a caller has to make first.
+/// The day of a table on any resource: its calls up to the reader's last line, each told as it is answered.
 pub fn plan_day<R: Resource>(
-    heap: Global,
     out: &mut Vec<u8>,
     draft: &Draft,
     text: &[u8],
     reader: &mut Reader<'_>,
     resource: &mut R,
 ) -> Result<(), AllocError>
-    ensures { OnOk result (Planned text.now (table draft.now) (R.Resource.meaning.seen resource.old) (to_come reader.old) out.old.items out.new.items) }
+    ensures { let before = R.meaning.seen resource.old in
+        let lines = to_come reader.old in
+        OnOk result (Planned text.now draft.now before lines out.old.items out.new.items) }
 {
     let mut plan = Plan::empty();
-    match analyse(draft, resource, &mut [0; 16], &mut [0; 16], &mut plan) {
-        Err(fault) => {
-            refused(heap, out, &fault)?;
-            Ok(())
-        }
-        Ok(()) => {
-            run_day(heap, out, &plan, draft, text, reader, resource)?;
-            Ok(())
-        }
+    if let Err(fault) = analyse(draft, resource, &mut [0; 16], &mut [0; 16], &mut plan) {
+        return refused(out, &fault);
     }
+    let mut dispatcher = Dispatcher::new();
+    if let Err(fault) = dispatcher.start(&plan, resource) {
+        return refused(out, &fault);
+    }
+    let mut day = Day {
+        draft,
+        text,
+        plan: &plan,
+        dispatcher,
+        resource,
+        book: Book::new(),
+        out,
+    };
+    day.calls(reader)?;
+    day.remarks()
 }
 
-// The day of a table on the resource of that name.
+// A `match` and not a `&mut dyn Resource`: each arm is one generic call, and a call through the trait object would have to be given what
+// the resource means besides.
+/// The day of a table on the resource of that name.
 pub fn on_pile(
-    heap: Global,
     out: &mut Vec<u8>,
     draft: &Draft,
     text: &[u8],
@@ -97,20 +82,20 @@ pub fn on_pile(
     match pile {
         Pile::Cache => {
             let mut cache = WayCache::empty_over(&mut marks);
-            plan_day(heap, out, draft, text, reader, &mut cache)
+            plan_day(out, draft, text, reader, &mut cache)
         }
         Pile::Banks => {
             let mut banks = RowBanks::closed();
-            plan_day(heap, out, draft, text, reader, &mut banks)
+            plan_day(out, draft, text, reader, &mut banks)
         }
         Pile::Both => {
             let mut both = Pair::new(WayCache::empty_over(&mut marks), RowBanks::closed());
-            plan_day(heap, out, draft, text, reader, &mut both)
+            plan_day(out, draft, text, reader, &mut both)
         }
         Pile::Reserved => {
             let both = Pair::new(WayCache::empty_over(&mut marks), RowBanks::closed());
             let mut reserved = Reserve::new(2, both);
-            plan_day(heap, out, draft, text, reader, &mut reserved)
+            plan_day(out, draft, text, reader, &mut reserved)
         }
     }
 }
