@@ -1,21 +1,19 @@
-// What happened in all runs, and how often a promise was broken.
-use std::io;
+//! What happened in all runs, and how often a promise was broken.
+use std::fmt;
 
-#[derive(Clone, Copy)]
+/// A count that stops at the largest number.
+#[derive(Clone, Copy, Default)]
 pub struct Counter {
     pub count: u64,
 }
 
 impl Counter {
-    pub fn new() -> Counter {
-        Counter { count: 0 }
-    }
-
+    /// So many more.
     pub fn add(&mut self, more: u64) {
         self.count = self.count.saturating_add(more);
     }
 
-    // One more if it is so.
+    /// One more if it is so.
     pub fn add_if(&mut self, so: bool) {
         if so {
             self.add(1);
@@ -23,7 +21,15 @@ impl Counter {
     }
 }
 
-#[derive(Clone, Copy)]
+impl fmt::Display for Counter {
+    fn fmt<W: fmt::Write>(&self, f: &mut fmt::Formatter<W>) -> fmt::Result {
+        let count = self.count;
+        write!(f, "{count}")
+    }
+}
+
+/// What happened in all runs.
+#[derive(Clone, Copy, Default)]
 pub struct Counts {
     pub tried: Counter,
     pub floors: Counter,
@@ -41,120 +47,78 @@ pub struct Counts {
     pub allowances: Counter,
 }
 
-#[derive(Clone, Copy)]
+/// How often each promise was broken.
+#[derive(Clone, Copy, Default)]
 pub struct Violations {
-    // an announcement refused that did not come too early, or taken though it did
+    /// an announcement refused that did not come too early, or taken though it did
     pub refusals: Counter,
-    // a batch neither finished nor run in full at its deadline
+    /// a batch neither finished nor run in full at its deadline
     pub late: Counter,
-    // a run without a batch, beyond the budget or after a finish
+    /// a run without a batch, beyond the budget or after a finish
     pub beyond: Counter,
-    // a run on a trace of a task that must not leak to it
+    /// a run on a trace of a task that must not leak to it
     pub leaks: Counter,
-    // more scrub ticks than the allowances of all batches taken so far
+    /// more scrub ticks than the allowances of all batches taken so far
     pub unpaid: Counter,
-    // a way with a trace after its scrub was done, or after the start
+    /// a way with a trace after its scrub was done, or after the start
     pub unclean: Counter,
-    // any other answer than the calls before it ask for
+    /// any other answer than the calls before it ask for
     pub answers: Counter,
 }
 
-impl Counts {
-    pub fn new() -> Counts {
-        let none = Counter::new();
-        Counts {
-            tried: none,
-            floors: none,
-            ticks: none,
-            rests: none,
-            taken: none,
-            too_early: none,
-            unlisted: none,
-            ended: none,
-            finished: none,
-            not_running: none,
-            unended: none,
-            at_bound: none,
-            scrubs: none,
-            allowances: none,
-        }
-    }
-
-    fn print_floors(&self, out: &impl Print) -> io::Result<()> {
-        println!(out; "floors tried: {}", self.tried.count)?;
-        println!(out; "floors accepted and run: {}", self.floors.count)?;
-        println!(out;
-            "ticks: {}, of them rests: {}",
-            self.ticks.count, self.rests.count
-        )
-    }
-
-    fn print_batches(&self, out: &impl Print) -> io::Result<()> {
-        println!(out; "batches taken: {}", self.taken.count)?;
-        println!(out; "batches ended: {}", self.ended.count)?;
-        println!(out; "batches finished by call: {}", self.finished.count)?;
-        println!(out;
-            "batches not over when their run stopped: {}",
-            self.unended.count
-        )?;
-        println!(out;
-            "batches over exactly at their bound: {}",
-            self.at_bound.count
-        )
-    }
-
-    pub fn print(&self, out: &impl Print) -> io::Result<()> {
-        self.print_floors(out)?;
-        self.print_batches(out)?;
-        println!(out;
-            "announcements refused as too early: {}",
-            self.too_early.count
-        )?;
-        println!(out;
-            "finishes refused as not running: {}",
-            self.not_running.count
-        )?;
-        println!(out; "calls refused as unlisted: {}", self.unlisted.count)?;
-        println!(out;
-            "scrub ticks: {}, allowances: {}",
-            self.scrubs.count, self.allowances.count
-        )
+impl fmt::Display for Counts {
+    fn fmt<W: fmt::Write>(&self, f: &mut fmt::Formatter<W>) -> fmt::Result {
+        let Counts {
+            tried,
+            floors,
+            ticks,
+            rests,
+            taken,
+            too_early,
+            unlisted,
+            ended,
+            finished,
+            not_running,
+            unended,
+            at_bound,
+            scrubs,
+            allowances,
+        } = *self;
+        writeln!(f, "floors tried: {tried}")?;
+        writeln!(f, "floors accepted and run: {floors}")?;
+        writeln!(f, "ticks: {ticks}, of them rests: {rests}")?;
+        writeln!(f, "batches taken: {taken}")?;
+        writeln!(f, "batches ended: {ended}")?;
+        writeln!(f, "batches finished by call: {finished}")?;
+        writeln!(f, "batches not over when their run stopped: {unended}")?;
+        writeln!(f, "batches over exactly at their bound: {at_bound}")?;
+        writeln!(f, "announcements refused as too early: {too_early}")?;
+        writeln!(f, "finishes refused as not running: {not_running}")?;
+        writeln!(f, "calls refused as unlisted: {unlisted}")?;
+        write!(f, "scrub ticks: {scrubs}, allowances: {allowances}")
     }
 }
 
-impl Violations {
-    pub fn new() -> Violations {
-        let none = Counter::new();
-        Violations {
-            refusals: none,
-            late: none,
-            beyond: none,
-            leaks: none,
-            unpaid: none,
-            unclean: none,
-            answers: none,
-        }
-    }
-
-    pub fn print(&self, out: &impl Print) -> io::Result<()> {
-        println!(out;
-            "refused otherwise than exactly when too early: {}",
-            self.refusals.count
+impl fmt::Display for Violations {
+    fn fmt<W: fmt::Write>(&self, f: &mut fmt::Formatter<W>) -> fmt::Result {
+        let Violations {
+            refusals,
+            late,
+            beyond,
+            leaks,
+            unpaid,
+            unclean,
+            answers,
+        } = *self;
+        writeln!(
+            f,
+            "refused otherwise than exactly when too early: {refusals}"
         )?;
-        println!(out; "late: {}", self.late.count)?;
-        println!(out;
-            "run beyond the budget or after a finish: {}",
-            self.beyond.count
-        )?;
-        println!(out; "run on a trace that must not leak: {}", self.leaks.count)?;
-        println!(out; "scrub ticks beyond the allowances: {}", self.unpaid.count)?;
-        println!(out;
-            "ways unclean after a scrub that was done: {}",
-            self.unclean.count
-        )?;
-        println!(out;
-            "other answers than the calls ask for: {}",
-            self.answers.count
-        )
+        writeln!(f, "late: {late}")?;
+        writeln!(f, "run beyond the budget or after a finish: {beyond}")?;
+        writeln!(f, "run on a trace that must not leak: {leaks}")?;
+        writeln!(f, "scrub ticks beyond the allowances: {unpaid}")?;
+        writeln!(f, "ways unclean after a scrub that was done: {unclean}")?;
+        write!(f, "other answers than the calls ask for: {answers}")
     }
 }

@@ -1,14 +1,14 @@
-// The floors that are run: small ones one after the other, and random ones, made as tight as the analysis lets them be.
+//! The floors that are run: small ones one after the other, and random ones, made as tight as the analysis lets them be.
 ghost use Rattle.std.specs.Prelude.{◌<◌};
 
 use analysis::plan::Plan;
 use chance::Chance;
-use sets::way_set::WaySet;
+use sets::number_set::WaySet;
 use taskset::draft::Draft;
 use taskset::fault::DraftFault;
 use taskset::task::{Figures, Kind};
 
-// How many floors `small_floor` knows.
+/// How many floors `small_floor` knows.
 pub const SMALL_FLOORS: u32 = 6_400;
 
 // The lowest digit of a number in this base, which is taken off it.
@@ -21,20 +21,23 @@ fn digit(rest: &mut u32, base: u32) -> u32
     lowest
 }
 
+// Each period up to 4 with each deadline up to it.
+const PERIODS_AND_DEADLINES: [(u32, u32); 10] = [
+    (1, 1),
+    (2, 1),
+    (2, 2),
+    (3, 1),
+    (3, 2),
+    (3, 3),
+    (4, 1),
+    (4, 2),
+    (4, 3),
+    (4, 4),
+];
+
 // A task on way 0 with a period up to 4, any deadline, a budget of 1 or 2, and either kind.
 fn small_task(rest: &mut u32) -> Figures {
-    let (period, deadline) = match digit(rest, 10) {
-        0 => (1, 1),
-        1 => (2, 1),
-        2 => (2, 2),
-        3 => (3, 1),
-        4 => (3, 2),
-        5 => (3, 3),
-        6 => (4, 1),
-        7 => (4, 2),
-        8 => (4, 3),
-        _ => (4, 4),
-    };
+    let (period, deadline) = PERIODS_AND_DEADLINES[digit(rest, 10) as usize];
     Figures {
         period,
         budget: 1 + digit(rest, 2),
@@ -48,7 +51,7 @@ fn small_task(rest: &mut u32) -> Figures {
     }
 }
 
-// Each floor of two such tasks and any pairs between them, by its number.
+/// Each floor of two such tasks and any pairs between them, by its number.
 pub fn small_floor(number: u32) -> Result<Draft, DraftFault> {
     let mut rest = number;
     let mut draft = Draft::empty();
@@ -64,6 +67,7 @@ pub fn small_floor(number: u32) -> Result<Draft, DraftFault> {
 }
 
 // What the tasks of one random floor have in common. A rate of n says "once in n times", and 0 says never.
+// A type of this program's own: the second analysis' floors are drawn from other figures, in another order.
 #[derive(Clone, Copy)]
 struct Style {
     tasks: u8,
@@ -76,33 +80,27 @@ struct Style {
     pair_rate: u32,
 }
 
-fn one_of(chance: &mut Chance, choices: &[u32]) -> u32 {
-    let at = chance.below(choices.len().min(1_000) as u32) as usize;
-    choices.get(at).copied().unwrap_or(0)
-}
-
 fn random_style(chance: &mut Chance, ways: u8) -> Style {
     let few = 1 + chance.below(5);
     let many = 1 + chance.below(16);
     let tasks = if chance.once_in(4) { many } else { few };
     Style {
         tasks: tasks as u8,
-        scale: one_of(chance, &[3, 6, 12, 30]).saturating_mul(tasks),
-        work: one_of(chance, &[1, 2, 4, 10]),
+        scale: chance.one_of(&[3, 6, 12, 30]).saturating_mul(tasks),
+        work: chance.one_of(&[1, 2, 4, 10]),
         ways: 1 + chance.below(u32::from(ways.max(1))),
-        whole_rate: one_of(chance, &[0, 4, 2, 1]),
-        pair_rate: one_of(chance, &[6, 3, 2, 1]),
+        whole_rate: chance.one_of(&[0, 4, 2, 1]),
+        pair_rate: chance.one_of(&[6, 3, 2, 1]),
     }
 }
 
+// Each way draws, the sure one too: one function with the second analysis', where it does not, would take a flag for that.
 fn random_ways(chance: &mut Chance, style: &Style) -> WaySet {
-    let mut ways = WaySet::empty().with(chance.below(style.ways.min(8)) as u8);
-    for way in 0..style.ways.min(8) {
-        if chance.once_in(3) {
-            ways = ways.with(way as u8);
-        }
-    }
-    ways
+    let count = style.ways.min(8) as u8;
+    let sure = chance.below(u32::from(count)) as u8;
+    (0..count)
+        .filter(|_| chance.once_in(3))
+        .fold(WaySet::empty().with(sure), WaySet::with)
 }
 
 fn random_task(chance: &mut Chance, style: &Style, task: u8) -> Figures {
@@ -134,7 +132,7 @@ fn add_random_pairs(chance: &mut Chance, draft: &mut Draft, rate: u32) -> Result
     Ok(())
 }
 
-// A floor on ways from 0 on, of which there are so many.
+/// A floor on ways from 0 on, of which there are so many.
 pub fn random_floor(chance: &mut Chance, ways: u8) -> Result<Draft, DraftFault> {
     let style = random_style(chance, ways);
     let mut draft = Draft::empty();
@@ -158,10 +156,8 @@ fn tight_figures(plan: &Plan, task: u8) -> Result<Figures, DraftFault> {
 }
 
 fn copy_pairs(plan: &Plan, draft: &mut Draft, to: u8) -> Result<(), DraftFault> {
-    for from in 0..plan.count() {
-        if plan.has_pair(from, to)? {
-            draft.add_pair(from, to)?;
-        }
+    for from in (0..plan.count()).filter(|from| plan.is_apart(*from, to)) {
+        draft.add_pair(from, to)?;
     }
     Ok(())
 }
@@ -173,7 +169,7 @@ fn tight_tasks(plan: &Plan, draft: &mut Draft) -> Result<(), DraftFault> {
     Ok(())
 }
 
-// The plan's floor without slack: no bound depends on a deadline, or on the period of the last task.
+/// The plan's floor without slack: no bound depends on a deadline, or on the period of the last task.
 pub fn without_slack(plan: &Plan) -> Result<Draft, DraftFault> {
     let mut draft = Draft::empty();
     tight_tasks(plan, &mut draft)?;

@@ -1,4 +1,4 @@
-// The orders in which a run's calls come.
+//! The orders in which a run's calls come.
 use crate::watch::Watch;
 use chance::Chance;
 use dispatch::dispatcher::Dispatcher;
@@ -6,91 +6,109 @@ use resource::answer::Progress;
 use resource::resource::Resource;
 use runs::answer::TickAnswer;
 
-#[derive(Clone, Copy)]
-pub enum Order {
-    // every task is announced as soon as it may be
-    LinedUp,
-    // one task alone when all is quiet, and all others once it has begun
-    Ambush,
-    // anything at any time
-    Random,
+/// A dispatcher that has been started, who watches it, and where the calls come from.
+#[derive(Drop)]
+pub struct Stage<'a> {
+    pub dispatcher: Dispatcher,
+    pub watch: Watch,
+    pub chance: &'a mut Chance,
 }
 
-fn announce(dispatcher: &mut Dispatcher, watch: &mut Watch, number: u8) {
-    let answer = dispatcher.announce(number);
-    watch.note_announced(number, answer);
-}
-
-fn finish(dispatcher: &mut Dispatcher, watch: &mut Watch, number: u8) {
-    let answer = dispatcher.finish(number);
-    watch.note_finished(number, answer);
-}
-
-fn is_early(watch: &Watch, number: u8) -> bool {
-    match watch.tasks.get(usize::from(number)) {
-        Some(task) => task.is_early(),
-        None => false,
+impl Stage<'_> {
+    fn announce(&mut self, number: u8) {
+        let answer = self.dispatcher.announce(number);
+        self.watch.note_announced(number, answer);
     }
-}
 
-// Announces every task that may be, and now and then one that comes too early.
-fn announce_all(dispatcher: &mut Dispatcher, watch: &mut Watch, chance: &mut Chance) {
-    for number in 0..watch.count() {
-        if !is_early(watch, number) || chance.once_in(16) {
-            announce(dispatcher, watch, number);
-        }
+    fn finish(&mut self, number: u8) {
+        let answer = self.dispatcher.finish(number);
+        self.watch.note_finished(number, answer);
     }
-}
 
-// Announces each task, early or not, once in so many times.
-fn announce_some(dispatcher: &mut Dispatcher, watch: &mut Watch, chance: &mut Chance, rate: u32) {
-    for number in 0..watch.count() {
-        if chance.once_in(rate) {
-            announce(dispatcher, watch, number);
-        }
-    }
-}
-
-fn ambush(dispatcher: &mut Dispatcher, watch: &mut Watch, chance: &mut Chance) {
-    if watch.is_quiet() {
-        let number = chance.below(u32::from(watch.count())) as u8;
-        announce(dispatcher, watch, number);
-    } else if chance.once_in(2) {
-        announce_all(dispatcher, watch, chance);
-    }
-}
-
-// Finishes the task just run, or any other, or a number past the last.
-fn finish_some(dispatcher: &mut Dispatcher, watch: &mut Watch, chance: &mut Chance) {
-    let any = chance.below(u32::from(watch.count()) + 2).min(255) as u8;
-    let is_any = chance.once_in(2);
-    let number = match watch.just_run() {
-        Some(running) if !is_any => running,
-        _ => any,
-    };
-    finish(dispatcher, watch, number);
-}
-
-fn calls_before_tick(
-    dispatcher: &mut Dispatcher,
-    watch: &mut Watch,
-    chance: &mut Chance,
-    order: Order,
-) {
-    match order {
-        Order::LinedUp => announce_all(dispatcher, watch, chance),
-        Order::Ambush => ambush(dispatcher, watch, chance),
-        Order::Random => {
-            announce_some(dispatcher, watch, chance, 4);
-            if chance.once_in(3) {
-                finish_some(dispatcher, watch, chance);
+    /// Announces every task as soon as it may be, and now and then one that comes too early.
+    pub fn announce_all(&mut self) {
+        for number in 0..self.watch.count() {
+            if !self.watch.is_early(number) || self.chance.once_in(16) {
+                self.announce(number);
             }
         }
     }
-    if chance.once_in(20) {
-        let past = watch.count().saturating_add(chance.below(3) as u8);
-        announce(dispatcher, watch, past);
-        finish_some(dispatcher, watch, chance);
+
+    // Announces each task, early or not, once in so many times.
+    fn announce_some(&mut self, rate: u32) {
+        for number in 0..self.watch.count() {
+            if self.chance.once_in(rate) {
+                self.announce(number);
+            }
+        }
+    }
+
+    /// Announces one task alone when all is quiet, and all others once it has begun.
+    pub fn ambush(&mut self) {
+        if self.watch.is_quiet() {
+            let number = self.chance.below(u32::from(self.watch.count())) as u8;
+            self.announce(number);
+        } else if self.chance.once_in(2) {
+            self.announce_all();
+        }
+    }
+
+    // Finishes the task just run, or any other, or a number past the last.
+    fn finish_some(&mut self) {
+        let any = self
+            .chance
+            .below(u32::from(self.watch.count()) + 2)
+            .min(255) as u8;
+        let is_any = self.chance.once_in(2);
+        let number = match self.watch.just_run() {
+            Some(running) if !is_any => running,
+            _ => any,
+        };
+        self.finish(number);
+    }
+
+    /// Announces and finishes anything at any time.
+    pub fn call_any(&mut self) {
+        self.announce_some(4);
+        if self.chance.once_in(3) {
+            self.finish_some();
+        }
+    }
+
+    // Now and then a number past the last is announced, and any finished.
+    fn call_amiss(&mut self) {
+        if self.chance.once_in(20) {
+            let past = self
+                .watch
+                .count()
+                .saturating_add(self.chance.below(3) as u8);
+            self.announce(past);
+            self.finish_some();
+        }
+    }
+
+    fn tick<R: Resource>(&mut self, resource: &mut R) {
+        let address = self.chance.draw();
+        let answer = self.dispatcher.tick(resource, address);
+        self.watch.note_tick(&answer);
+        let is_clean = is_done_clean(resource, &answer);
+        self.watch.violations.unclean.add_if(!is_clean);
+    }
+
+    /// So many ticks over the resource, with these calls before each.
+    pub fn run<R: Resource, F: Fn(&mut Stage<'_>)>(
+        &mut self,
+        resource: &mut R,
+        ticks: u32,
+        calls: F,
+    )
+        requires { F.IsAlwaysCallable calls }
+    {
+        for _ in 0..ticks {
+            calls(self);
+            self.call_amiss();
+            self.tick(resource);
+        }
     }
 }
 
@@ -103,24 +121,5 @@ fn is_done_clean<R: Resource>(resource: &R, answer: &TickAnswer) -> bool {
             progress: Progress::Done,
         } => resource.is_clean(way),
         _ => true,
-    }
-}
-
-// So many ticks of a dispatcher that has been started over the resource, with calls before each.
-pub fn run<R: Resource>(
-    dispatcher: &mut Dispatcher,
-    resource: &mut R,
-    watch: &mut Watch,
-    chance: &mut Chance,
-    order: Order,
-    ticks: u32,
-) {
-    for _ in 0..ticks {
-        calls_before_tick(dispatcher, watch, chance, order);
-        let address = chance.draw();
-        let answer = dispatcher.tick(resource, address);
-        watch.note_tick(&answer);
-        let is_clean = is_done_clean(resource, &answer);
-        watch.violations.unclean.add_if(!is_clean);
     }
 }

@@ -1,69 +1,85 @@
-// The books that are kept of a run from outside: by its calls and their answers alone.
+//! The books that are kept of a run from outside: by its calls and their answers alone.
 use crate::counts::{Counts, Violations};
 use resource::answer::Progress;
 use runs::answer::TickAnswer;
 use runs::fault::CallFault;
+use sets::number_set::{TaskSet, WaySet};
 use taskset::task::Figures;
 
-// A task, and what has become of its last batch.
-#[derive(Clone, Copy)]
-pub struct Watched {
-    pub figures: Figures,
-    // bit k: task k must not leak to this one
-    pub apart: u16,
-    pub bound: u32,
-    pub allowance: u64,
-    // a batch has been taken
-    pub taken: bool,
-    // the ticks that have followed the last batch taken
+/// A batch that was taken, and what has become of it.
+#[derive(Clone, Copy, Default)]
+pub struct Batch {
+    /// the ticks that have followed it
     pub since: u32,
-    // those of them that ran the task
+    /// those of them that ran its task, also after a finish, where each is a violation
     pub ran: u32,
-    // a finish of it was not refused
+    /// a finish of it was not refused
+    // A flag, and no case of an enum: it has no value beside it, and the counts go on after it.
     pub finished: bool,
 }
 
+/// A task, and its last batch.
+#[derive(Clone, Copy)]
+pub struct Watched {
+    pub figures: Figures,
+    /// the tasks that must not leak to this one
+    pub apart: TaskSet,
+    pub bound: u32,
+    pub allowance: u64,
+    pub batch: Option<Batch>,
+}
+
 impl Watched {
-    pub fn new(figures: Figures, apart: u16, bound: u32, allowance: u64) -> Watched {
-        Watched {
-            figures,
-            apart,
-            bound,
-            allowance,
-            taken: false,
-            since: 0,
-            ran: 0,
-            finished: false,
-        }
-    }
-
+    /// Would a batch of it announced now come too early?
     pub fn is_early(&self) -> bool {
-        self.taken && self.since < self.figures.period
+        self.batch
+            .is_some_and(|batch| batch.since < self.figures.period)
     }
 
-    // Has its last batch neither been finished nor run in full?
+    /// Has its last batch neither been finished nor run in full?
     pub fn is_waiting(&self) -> bool {
-        self.taken && !self.finished && self.ran < self.figures.budget
+        self.batch
+            .is_some_and(|batch| !batch.finished && batch.ran < self.figures.budget)
+    }
+
+    // One tick has run it: its batch with that tick. A run without a batch leaves none.
+    fn run(&mut self) -> Batch {
+        let mut batch = self.batch.unwrap_or_default();
+        batch.ran = batch.ran.saturating_add(1);
+        self.batch = self.batch.map(|_| batch);
+        batch
+    }
+
+    // One tick more has followed its batch. Is the batch waiting, and its deadline come?
+    fn is_late_with_tick(&mut self) -> bool {
+        let Some(batch) = &mut self.batch else {
+            return false;
+        };
+        batch.since = batch.since.saturating_add(1);
+        let since = batch.since;
+        since == self.figures.deadline && self.is_waiting()
     }
 }
 
+/// The books of one run: its tasks, the traces that they left, and what is counted of the calls and their answers.
 #[derive(Drop)]
 pub struct Watch {
-    pub tasks: Vec<Watched>,
-    // for each way, bit k: task k has run there since the way's last scrub that was done
-    traces: [u16; 8],
+    tasks: Vec<Watched>,
+    /// for each way, the tasks that have run there since the way's last scrub that was done
+    traces: [TaskSet; 8],
     just_run: Option<u8>,
     scrubs: u64,
     allowances: u64,
-    pub counts: Counts,
+    counts: Counts,
     pub violations: Violations,
 }
 
 impl Watch {
+    /// The books at a start, over these tasks, which count on from what other runs have counted.
     pub fn over(tasks: Vec<Watched>, counts: Counts, violations: Violations) -> Watch {
         Watch {
             tasks,
-            traces: [0; 8],
+            traces: [TaskSet::empty(); 8],
             just_run: None,
             scrubs: 0,
             allowances: 0,
@@ -72,120 +88,121 @@ impl Watch {
         }
     }
 
+    /// The task that the last tick ran, if its job neither ended with that tick nor was finished since.
     pub fn just_run(&self) -> Option<u8> {
         self.just_run
     }
 
-    // How many tasks there are.
+    /// How many tasks there are.
     pub fn count(&self) -> u8 {
         self.tasks.len().min(255) as u8
     }
 
-    // Is no batch waiting?
-    pub fn is_quiet(&self) -> bool {
-        for task in self.tasks.iter() {
-            if task.is_waiting() {
-                return false;
-            }
-        }
-        true
+    /// Would an announcement of the task come too early?
+    pub fn is_early(&self, number: u8) -> bool {
+        self.tasks
+            .get(usize::from(number))
+            .is_some_and(|task| task.is_early())
     }
 
+    /// Is no batch waiting?
+    pub fn is_quiet(&self) -> bool {
+        self.tasks.iter().all(|task| !task.is_waiting())
+    }
+
+    fn note_unlisted(&mut self, answer: Result<(), CallFault>) {
+        self.counts.unlisted.add(1);
+        self.violations
+            .answers
+            .add_if(answer != Err(CallFault::Unlisted));
+    }
+
+    /// A task was announced, and the dispatcher gave this answer.
     pub fn note_announced(&mut self, number: u8, answer: Result<(), CallFault>) {
         let Some(task) = self.tasks.get_mut(usize::from(number)) else {
-            self.counts.unlisted.add(1);
-            self.violations
-                .answers
-                .add_if(!matches!(answer, Err(CallFault::Unlisted)));
-            return;
+            return self.note_unlisted(answer);
         };
         match answer {
             Ok(()) => {
                 self.violations.refusals.add_if(task.is_early());
                 self.violations.answers.add_if(task.is_waiting());
-                task.taken = true;
-                task.since = 0;
-                task.ran = 0;
-                task.finished = false;
+                task.batch = Some(Batch::default());
                 self.allowances = self.allowances.saturating_add(task.allowance);
                 self.counts.allowances.add(task.allowance);
                 self.counts.taken.add(1);
             }
             Err(fault) => {
                 self.violations.refusals.add_if(!task.is_early());
-                self.violations
-                    .answers
-                    .add_if(!matches!(fault, CallFault::TooEarly));
+                self.violations.answers.add_if(fault != CallFault::TooEarly);
                 self.counts.too_early.add(1);
             }
         }
     }
 
+    /// A finish of a task was called for, and the dispatcher gave this answer.
     pub fn note_finished(&mut self, number: u8, answer: Result<(), CallFault>) {
         let is_running = self.just_run == Some(number);
         let Some(task) = self.tasks.get_mut(usize::from(number)) else {
-            self.counts.unlisted.add(1);
-            self.violations
-                .answers
-                .add_if(!matches!(answer, Err(CallFault::Unlisted)));
-            return;
+            return self.note_unlisted(answer);
         };
         match answer {
             Ok(()) => {
                 self.violations.answers.add_if(!is_running);
-                task.finished = true;
+                if let Some(batch) = &mut task.batch {
+                    batch.finished = true;
+                }
                 self.just_run = None;
                 self.counts.finished.add(1);
             }
             Err(fault) => {
                 self.violations
                     .answers
-                    .add_if(is_running || !matches!(fault, CallFault::NotRunning));
+                    .add_if(is_running || fault != CallFault::NotRunning);
                 self.counts.not_running.add(1);
             }
         }
     }
 
-    // The tasks that have run on these ways of a task since they were scrubbed.
-    fn traces_before(&self, figures: &Figures) -> u16 {
-        let mut all = 0;
-        for (way, traces) in self.traces.iter().enumerate() {
-            if figures.ways.contains(way as u8) {
-                all |= *traces;
-            }
-        }
-        all
+    // The tasks that have run on these ways since they were scrubbed.
+    fn traces_on(&self, ways: WaySet) -> TaskSet {
+        (0..8u8)
+            .zip(&self.traces)
+            .filter(|(way, _)| ways.contains(*way))
+            .fold(TaskSet::empty(), |all, (_, traces)| all.union(*traces))
     }
 
-    fn leave_traces(&mut self, figures: &Figures, number: u8) {
-        for (way, traces) in self.traces.iter_mut().enumerate() {
-            if figures.ways.contains(way as u8) && number < 16 {
-                *traces |= 1 << number;
+    fn leave_traces(&mut self, ways: WaySet, number: u8) {
+        for (way, traces) in (0..8u8).zip(self.traces.iter_mut()) {
+            if ways.contains(way) {
+                *traces = traces.with(number);
             }
         }
     }
 
     fn note_run(&mut self, number: u8, ended: bool) {
-        let Some(task) = self.tasks.get(usize::from(number)).copied() else {
+        let Some(task) = self.tasks.get_mut(usize::from(number)) else {
             self.violations.answers.add(1);
             return;
         };
         self.violations.beyond.add_if(!task.is_waiting());
-        let before = self.traces_before(&task.figures);
-        self.violations.leaks.add_if(before & task.apart != 0);
-        let ran = task.ran.saturating_add(1);
+        let batch = task.run();
+        let Watched {
+            figures,
+            apart,
+            bound,
+            ..
+        } = *task;
         self.violations
             .answers
-            .add_if(ended != (ran == task.figures.budget));
-        self.leave_traces(&task.figures, number);
-        if let Some(task) = self.tasks.get_mut(usize::from(number)) {
-            task.ran = ran;
-        }
-        self.just_run = if ended { None } else { Some(number) };
+            .add_if(ended != (batch.ran == figures.budget));
+        let leaking = self.traces_on(figures.ways).intersection(apart);
+        self.violations.leaks.add_if(!leaking.is_empty());
+        self.leave_traces(figures.ways, number);
+        self.just_run = (!ended).then_some(number);
         self.counts.ended.add_if(ended);
         self.counts
             .at_bound
-            .add_if(ended && task.since.saturating_add(1) == task.bound);
+            .add_if(ended && batch.since.saturating_add(1) == bound);
     }
 
     fn note_scrub(&mut self, number: u8, way: u8, progress: Progress) {
@@ -193,14 +210,12 @@ impl Watch {
         self.scrubs = self.scrubs.saturating_add(1);
         self.counts.scrubs.add(1);
         self.violations.unpaid.add_if(self.scrubs > self.allowances);
-        let is_waiting = match self.tasks.get(usize::from(number)) {
-            Some(task) => task.is_waiting() && task.figures.ways.contains(way),
-            None => false,
-        };
+        let is_waiting = self.tasks.get(usize::from(number)).is_some_and(|task| task.is_waiting()
+            && task.figures.ways.contains(way));
         self.violations.answers.add_if(!is_waiting);
         if progress == Progress::Done {
             if let Some(traces) = self.traces.get_mut(usize::from(way)) {
-                *traces = 0;
+                *traces = TaskSet::empty();
             }
         }
     }
@@ -208,14 +223,12 @@ impl Watch {
     // One tick more has followed each batch.
     fn pass_tick(&mut self) {
         for task in self.tasks.iter_mut() {
-            task.since = task.since.saturating_add(1);
-            if task.since == task.figures.deadline {
-                self.violations.late.add_if(task.is_waiting());
-            }
+            self.violations.late.add_if(task.is_late_with_tick());
         }
         self.counts.ticks.add(1);
     }
 
+    /// A tick passed, and the dispatcher gave this answer.
     pub fn note_tick(&mut self, answer: &TickAnswer) {
         match *answer {
             TickAnswer::Rest => {
@@ -234,12 +247,11 @@ impl Watch {
         self.pass_tick();
     }
 
-    // The run stops here: what has been counted over all runs.
+    /// The run stops here: what has been counted over all runs.
     pub fn stop(self) -> (Counts, Violations) {
         let mut counts = self.counts;
-        for task in self.tasks.iter() {
-            counts.unended.add_if(task.is_waiting());
-        }
+        let waiting = self.tasks.iter().filter(|task| task.is_waiting()).count();
+        counts.unended.add(waiting as u64);
         (counts, self.violations)
     }
 }

@@ -1,17 +1,17 @@
-// Random floors in plain figures, and the drafts of them.
+//! Random floors in plain figures, and the drafts of them.
 ghost use Rattle.std.specs.Prelude.{◌≤◌};
 
 use crate::lines::Line;
-use crate::second;
-use crate::second::Costs;
+use crate::second::{Costs, Floor};
 use chance::Chance;
-use sets::way_set::WaySet;
+use sets::number_set::WaySet;
 use std::alloc::{AllocError, Global};
 use taskset::draft::Draft;
 use taskset::fault::DraftFault;
 use taskset::task::{Figures, Kind};
 
 // What the tasks of one floor have in common. A rate of n says "once in n times", and 0 says never.
+// A type of this program's own: the floors of the hostile runs are drawn from other figures, in another order.
 #[derive(Clone, Copy)]
 struct Style {
     tasks: u32,
@@ -24,26 +24,18 @@ struct Style {
     whole_rate: u32,
     pair_rate: u32,
     short_deadline_rate: u32,
-    // lower tasks have longer periods
+    // lower tasks have longer periods; a flag, as it has no value beside it
     rising: bool,
 }
 
-fn one_of(chance: &mut Chance, choices: &[u32]) -> u32 {
-    let at = chance.below(choices.len().min(1_000) as u32) as usize;
-    choices.get(at).copied().unwrap_or(0)
-}
-
-// How many ways there are.
+// How many ways there are: those up to the last that costs something.
 fn way_count(costs: &Costs) -> u32
     ensures { result ≤ 8 }
 {
-    let mut count = 0;
-    for (way, cost) in costs.iter().enumerate() {
-        if *cost > 0 {
-            count = way as u32 + 1;
-        }
-    }
-    count
+    costs
+        .iter()
+        .rposition(|cost| *cost > 0)
+        .map_or(0, |last| last as u32 + 1)
 }
 
 fn random_style(chance: &mut Chance, there: u32) -> Style {
@@ -51,43 +43,46 @@ fn random_style(chance: &mut Chance, there: u32) -> Style {
     let many = 1 + chance.below(16);
     let huge = chance.once_in(40);
     let tasks = if huge || chance.once_in(3) { few } else { many };
-    let scale = if huge {
-        one_of(chance, &[50_000, 250_000])
+    let scale: u32 = if huge {
+        chance.one_of(&[50_000, 250_000])
     } else {
-        one_of(chance, &[2, 5, 12, 30, 90])
+        chance.one_of(&[2, 5, 12, 30, 90])
     };
     Style {
         tasks,
         scale: scale.saturating_mul(tasks),
         load: 3 + chance.below(60),
         ways: 1 + chance.below(there.max(1)),
-        whole_rate: one_of(chance, &[0, 4, 2, 1]),
-        pair_rate: one_of(chance, &[0, 12, 4, 2, 1]),
-        short_deadline_rate: one_of(chance, &[0, 0, 8, 3]),
+        whole_rate: chance.one_of(&[0, 4, 2, 1]),
+        pair_rate: chance.one_of(&[0, 12, 4, 2, 1]),
+        short_deadline_rate: chance.one_of(&[0, 0, 8, 3]),
         rising: !chance.once_in(4),
     }
 }
 
+// The sure way draws nothing: one function with the hostile runs', where it does, would take a flag for that.
 fn random_ways(chance: &mut Chance, style: &Style) -> u8 {
     let count = style.ways.min(8);
     let sure = chance.below(count);
-    let mut ways = 0u8;
-    for way in 0..count {
+    (0..count).fold(0, |ways, way| {
         if way == sure || chance.once_in(4) {
-            ways |= 1 << way;
+            ways | 1 << way
+        } else {
+            ways
         }
-    }
-    ways
+    })
 }
 
 fn random_apart(chance: &mut Chance, style: &Style, task: u32) -> u16 {
-    let mut apart = 0u16;
-    for other in 0..style.tasks.min(16) {
-        if other != task && chance.once_in(style.pair_rate) {
-            apart |= 1 << other;
+    let count = style.tasks.min(16);
+    let rate = style.pair_rate;
+    (0..count).fold(0, |apart, other| {
+        if other != task && chance.once_in(rate) {
+            apart | 1 << other
+        } else {
+            apart
         }
-    }
-    apart
+    })
 }
 
 fn random_line(chance: &mut Chance, style: &Style, task: u32) -> Line {
@@ -117,14 +112,18 @@ fn random_line(chance: &mut Chance, style: &Style, task: u32) -> Line {
 }
 
 // Gives one task a deadline at its bound, or one tick short of it.
-fn sharpened(
-    heap: Global,
+fn sharpen(
+    alloc: Global,
     chance: &mut Chance,
     lines: &mut [Line],
     costs: &Costs,
 ) -> Result<(), AllocError> {
     let task = chance.below(lines.len().min(16) as u32) as usize;
-    if let Some(bound) = second::bound_in_period(heap, lines, costs, task)? {
+    let floor = Floor {
+        lines,
+        costs: *costs,
+    };
+    if let Some(bound) = floor.bound_in_period(alloc, task)? {
         let deadline = bound.saturating_sub(chance.below(2));
         if let Some(line) = lines.get_mut(task) {
             line.deadline = deadline.max(1);
@@ -133,72 +132,67 @@ fn sharpened(
     Ok(())
 }
 
-// A floor of up to sixteen tasks, mostly on ways that are there.
+/// A floor of up to sixteen tasks, mostly on ways that are there.
 pub fn random_floor(
-    heap: Global,
+    alloc: Global,
     chance: &mut Chance,
     costs: &Costs,
 ) -> Result<Vec<Line>, AllocError> {
-    let mut lines = Vec::new(heap);
     if chance.once_in(80) {
-        return Ok(lines);
+        return Ok(Vec::new(alloc));
     }
     let there = way_count(costs);
     let mut style = random_style(chance, there);
     if chance.once_in(12) {
         style.ways = 8;
     }
-    for task in 0..style.tasks.min(16) {
-        lines.push(random_line(chance, &style, task))?;
-    }
+    let mut lines: Vec<Line> = (0..style.tasks.min(16))
+        .map(|task| random_line(chance, &style, task))
+        .collect(alloc)?;
     if chance.once_in(2) {
-        sharpened(heap, chance, &mut lines, costs)?;
+        sharpen(alloc, chance, &mut lines, costs)?;
     }
     Ok(lines)
 }
 
 fn ways_of(line: &Line) -> WaySet {
-    let mut ways = WaySet::empty();
-    for way in 0..8u8 {
-        if line.uses(way as usize) {
-            ways = ways.with(way);
-        }
-    }
-    ways
+    (0..8u8)
+        .filter(|way| line.uses(usize::from(*way)))
+        .fold(WaySet::empty(), WaySet::with)
 }
 
-pub fn figures_of(line: &Line) -> Figures {
-    Figures {
-        period: line.period,
-        budget: line.budget,
-        deadline: line.deadline,
-        ways: ways_of(line),
-        kind: if line.whole { Kind::Whole } else { Kind::Split },
+impl From<&Line> for Figures {
+    fn from(line: &Line) -> Figures {
+        Figures {
+            period: line.period,
+            budget: line.budget,
+            deadline: line.deadline,
+            ways: ways_of(line),
+            kind: if line.whole { Kind::Whole } else { Kind::Split },
+        }
     }
 }
 
 fn add_pairs(draft: &mut Draft, line: &Line, task: u8) -> Result<(), DraftFault> {
-    for other in 0..16u8 {
-        if line.is_apart_from(other as usize) {
-            draft.add_pair(other, task)?;
-        }
+    for other in (0..16u8).filter(|other| line.is_apart_from(usize::from(*other))) {
+        draft.add_pair(other, task)?;
     }
     Ok(())
 }
 
 fn add_tasks(draft: &mut Draft, lines: &[Line]) -> Result<(), DraftFault> {
     for line in lines {
-        let _ = draft.add(figures_of(line))?;
+        let _ = draft.add(Figures::from(line))?;
     }
     Ok(())
 }
 
-// The draft of a floor.
+/// The draft of a floor.
 pub fn draft_of(lines: &[Line]) -> Result<Draft, DraftFault> {
     let mut draft = Draft::empty();
     add_tasks(&mut draft, lines)?;
-    for (task, line) in lines.iter().enumerate() {
-        add_pairs(&mut draft, line, task.min(255) as u8)?;
+    for (task, line) in (0..=255u8).zip(lines) {
+        add_pairs(&mut draft, line, task)?;
     }
     Ok(draft)
 }

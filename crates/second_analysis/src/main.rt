@@ -1,4 +1,4 @@
-// A second analysis against the first: written apart from it, from the rules alone, and run on random floors over several resources.
+//! A second analysis against the first: written apart from it, from the rules alone, and run on random floors over several resources.
 #![tactic(auto)]
 
 mod compare;
@@ -11,11 +11,11 @@ mod worked;
 
 use analysis::plan::Plan;
 use chance::Chance;
-use compare::{Left, agree, marked};
+use compare::{agree, marked};
 use lines::Line;
 use piles::{Results, Shape, Stand};
 use refusal::Refusal;
-use second::Verdict;
+use second::{Floor, Verdict};
 use std::alloc::{AllocError, Global};
 use std::io;
 use tabletext::text;
@@ -40,73 +40,74 @@ fn fill_random(chance: &mut Chance, memory: &mut [u8]) {
 }
 
 fn is_tight(lines: &[Line], bounds: &[u32]) -> bool {
-    for (line, bound) in lines.iter().zip(bounds) {
-        if line.deadline == *bound {
-            return true;
+    lines
+        .iter()
+        .zip(bounds)
+        .any(|(line, bound)| line.deadline == *bound)
+}
+
+// What all comparisons share: where their chance comes from, the plan that each leaves to the next, and what has been counted.
+#[derive(Drop)]
+struct Comparisons {
+    alloc: Global,
+    chance: Chance,
+    plan: Plan,
+    tally: Tally,
+}
+
+impl Comparisons {
+    fn count_verdict(&mut self, shape: Shape, lines: &[Line], second: &Verdict) {
+        match second {
+            Ok(bounds) => self.tally.count_accepted(shape, is_tight(lines, bounds)),
+            Err(refused) => {
+                let plan_was_full = !self.plan.is_empty();
+                self.tally.count_refused(refused.number, plan_was_full)
+            }
         }
     }
-    false
-}
 
-fn count_verdict(
-    tally: &mut Tally,
-    second: &Verdict,
-    shape: Shape,
-    lines: &[Line],
-    plan_was_full: bool,
-) {
-    match second {
-        Verdict::Accepted(bounds) => tally.count_accepted(shape, is_tight(lines, bounds)),
-        Verdict::Refused { number, .. } => tally.count_refused(*number, plan_was_full),
+    // One floor on one resource, by both.
+    fn compare_on(&mut self, stand: &Stand) -> Result<(), AllocError> {
+        let costs = stand.costs();
+        let lines = floors::random_floor(self.alloc, &mut self.chance, &costs)?;
+        let floor = Floor {
+            lines: &lines,
+            costs,
+        };
+        let mut bounds = marked(self.alloc, random_places(&mut self.chance, lines.len()))?;
+        let mut slacks = marked(self.alloc, random_places(&mut self.chance, lines.len()))?;
+        let second = floor.conclude(self.alloc, bounds.len().min(slacks.len()))?;
+        self.count_verdict(stand.shape, &lines, &second);
+        let Ok(draft) = floors::draft_of(&lines) else {
+            self.tally.count_floor(lines.len(), false);
+            return Ok(());
+        };
+        let mut memory = [0u8; 300];
+        fill_random(&mut self.chance, &mut memory);
+        let mut results = Results {
+            bounds: &mut bounds,
+            slacks: &mut slacks,
+            plan: &mut self.plan,
+        };
+        let first = stand.analyse(&mut memory, &draft, &mut results);
+        let agreed = agree(&first, &results, &second, &floor);
+        self.tally.count_floor(lines.len(), agreed);
+        Ok(())
     }
 }
 
-// One floor on one resource, by both.
-fn compare_on(
-    heap: Global,
-    chance: &mut Chance,
-    stand: &Stand,
-    plan: &mut Plan,
-    tally: &mut Tally,
-) -> Result<(), AllocError> {
-    let costs = piles::costs_of(stand);
-    let lines = floors::random_floor(heap, chance, &costs)?;
-    let mut bounds = marked(heap, random_places(chance, lines.len()))?;
-    let mut slacks = marked(heap, random_places(chance, lines.len()))?;
-    let places = bounds.len().min(slacks.len());
-    let second = second::conclude(heap, &lines, &costs, places)?;
-    let plan_was_full = !plan.is_empty();
-    count_verdict(tally, &second, stand.shape, &lines, plan_was_full);
-    let Ok(draft) = floors::draft_of(&lines) else {
-        tally.count_floor(lines.len(), false);
-        return Ok(());
+fn compare_all(alloc: Global) -> Result<Tally, AllocError> {
+    let mut comparisons = Comparisons {
+        alloc,
+        chance: Chance::seeded(20_261_118),
+        plan: Plan::empty(),
+        tally: Tally::default(),
     };
-    let mut memory = [0u8; 300];
-    fill_random(chance, &mut memory);
-    let results = Results {
-        bounds: &mut bounds,
-        slacks: &mut slacks,
-        plan: &mut *plan,
-    };
-    let first = piles::analyse_on(stand, &mut memory, &draft, results);
-    let left = Left {
-        bounds: &bounds,
-        slacks: &slacks,
-        plan,
-    };
-    tally.count_floor(lines.len(), agree(&first, &left, &second, &lines, &costs));
-    Ok(())
-}
-
-fn compare_all(heap: Global) -> Result<Tally, AllocError> {
-    let mut chance = Chance::seeded(20_261_118);
-    let mut plan = Plan::empty();
-    let mut tally = Tally::new();
     for _ in 0..FLOORS {
-        let stand = piles::random_stand(&mut chance);
-        compare_on(heap, &mut chance, &stand, &mut plan, &mut tally)?;
+        let stand = piles::random_stand(&mut comparisons.chance);
+        comparisons.compare_on(&stand)?;
     }
-    Ok(tally)
+    Ok(comparisons.tally)
 }
 
 // A name that begins with a capital letter.
@@ -125,7 +126,7 @@ fn print_odd_word(out: &impl Print) -> io::Result<()> {
 
 fn main(rt: HostRuntime) -> io::Result<()> {
     let tally = compare_all(rt.alloc())?;
-    tally.print(&rt)?;
+    println!(rt; "{tally}")?;
     let by_hand = worked::are_as_by_hand(rt.alloc())?;
     println!(rt; "floors worked by hand come out so: {by_hand}")?;
     print_odd_word(&rt)

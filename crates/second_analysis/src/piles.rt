@@ -1,4 +1,4 @@
-// The resources that floors are analysed on, and what their ways cost by a plain reading of what each is.
+//! The resources that floors are analysed on, and what their ways cost by a plain reading of what each is.
 use crate::second::Costs;
 use analysis::analyse::analyse;
 use analysis::fault::AnalysisFault;
@@ -6,25 +6,40 @@ use analysis::plan::Plan;
 use chance::Chance;
 use pair::Pair;
 use reserve::Reserve;
+use resource::resource::Resource;
 use row_banks::banks::RowBanks;
 use slow_board::board::SlowBoard;
+use std::array;
 use taskset::draft::Draft;
 use way_cache::cache::WayCache;
 
+/// The resource that a floor is analysed on.
+// An enum of this program's own, with its table: the hostile runs' floors are on other cases.
 #[derive(Clone, Copy)]
 pub enum Shape {
     Cache,
     Banks,
     Slow,
-    // a cache and row banks
+    /// a cache and row banks
     Both,
-    // a cache with ways hidden
+    /// a cache with ways hidden
     Reserved,
-    // a cache with ways hidden, together with row banks and a slow board
+    /// a cache with ways hidden, together with row banks and a slow board
     Pile,
 }
 
-// A shape with its sizes: the bytes that a cache gets, the ways hidden, and how many calls beyond one a slow scrub takes on each way.
+impl Shape {
+    const ALL: [Shape; 6] = [
+        Shape::Cache,
+        Shape::Banks,
+        Shape::Slow,
+        Shape::Both,
+        Shape::Reserved,
+        Shape::Pile,
+    ];
+}
+
+/// A shape with its sizes: the bytes that a cache gets, the ways hidden, and how many calls beyond one a slow scrub takes on each way.
 #[derive(Clone, Copy)]
 pub struct Stand {
     pub shape: Shape,
@@ -33,11 +48,19 @@ pub struct Stand {
     pub extras: [u16; 8],
 }
 
-// The lists and the plan that an analysis fills.
+/// The lists and the plan that an analysis fills.
+#[derive(Drop)]
 pub struct Results<'a> {
     pub bounds: &'a mut [u32],
     pub slacks: &'a mut [u32],
     pub plan: &'a mut Plan,
+}
+
+impl Results<'_> {
+    // The analysis of a draft on a resource, which fills the lists and the plan.
+    fn fill<R: Resource>(&mut self, draft: &Draft, resource: &R) -> Result<(), AnalysisFault> {
+        analyse(draft, resource, self.bounds, self.slacks, self.plan)
+    }
 }
 
 fn random_extra(chance: &mut Chance) -> u16 {
@@ -53,29 +76,16 @@ fn random_extra(chance: &mut Chance) -> u16 {
     extra as u16
 }
 
-fn random_shape(chance: &mut Chance) -> Shape {
-    match chance.below(6) {
-        0 => Shape::Cache,
-        1 => Shape::Banks,
-        2 => Shape::Slow,
-        3 => Shape::Both,
-        4 => Shape::Reserved,
-        _ => Shape::Pile,
-    }
-}
-
+/// Any shape, with sizes that are mostly the usual ones.
 pub fn random_stand(chance: &mut Chance) -> Stand {
-    let shape = random_shape(chance);
+    let shape = Shape::ALL[chance.below(6) as usize];
     let bytes = if chance.once_in(3) {
         chance.below(300)
     } else {
         256
     };
     let hidden = chance.below(10) as u8;
-    let mut extras = [0u16; 8];
-    for extra in extras.iter_mut() {
-        *extra = random_extra(chance);
-    }
+    let extras = array::from_fn(|_| random_extra(chance));
     Stand {
         shape,
         bytes: bytes as usize,
@@ -90,59 +100,29 @@ pub fn random_stand(chance: &mut Chance) -> Stand {
 
 // 2 for each way of 32 bytes, up to eight.
 fn cache_costs(bytes: usize) -> Costs {
-    let mut costs = [0u16; 8];
-    for (way, cost) in costs.iter_mut().enumerate() {
-        if 32 * (way + 1) <= bytes {
-            *cost = 2;
-        }
-    }
-    costs
+    array::from_fn(|way| if way < bytes / 32 { 2 } else { 0 })
 }
 
 fn slow_costs(extras: &Costs) -> Costs {
-    let mut costs = [0u16; 8];
-    for (cost, extra) in costs.iter_mut().zip(extras) {
-        *cost = extra.saturating_add(1);
-    }
-    costs
+    extras.map(|extra| extra.saturating_add(1))
 }
 
 // What the ways cost that both have.
 fn joined(first: &Costs, second: &Costs) -> Costs {
-    let mut costs = [0u16; 8];
-    for (cost, (a, b)) in costs.iter_mut().zip(first.iter().zip(second)) {
-        if *a > 0 && *b > 0 {
-            *cost = a.saturating_add(*b);
-        }
-    }
-    costs
+    array::from_fn(|way| match (first[way], second[way]) {
+        (0, _) | (_, 0) => 0,
+        (a, b) => a.saturating_add(b),
+    })
 }
 
 // What is left without the lowest ways.
 fn without_lowest(costs: &Costs, hidden: u8) -> Costs {
-    let mut left = [0u16; 8];
-    for (cost, below) in left.iter_mut().zip(costs.iter().skip(hidden as usize)) {
-        *cost = *below;
-    }
-    left
+    let hidden = usize::from(hidden);
+    array::from_fn(|way| costs.get(way.saturating_add(hidden)).copied().unwrap_or(0))
 }
 
-pub fn costs_of(stand: &Stand) -> Costs {
-    let cache = cache_costs(stand.bytes);
-    let slow = slow_costs(&stand.extras);
-    match stand.shape {
-        Shape::Cache => cache,
-        Shape::Banks => [1; 8],
-        Shape::Slow => slow,
-        Shape::Both => joined(&cache, &[1; 8]),
-        Shape::Reserved => without_lowest(&cache, stand.hidden),
-        Shape::Pile => joined(
-            &without_lowest(&cache, stand.hidden),
-            &joined(&[1; 8], &slow),
-        ),
-    }
-}
-
+// A board whose scrubs take so many calls beyond one.
+// A maker of this program's own: the costs were drawn one by one before, and the order of draws is what the output hangs on.
 fn slow_board(extras: &Costs) -> SlowBoard {
     let mut board = SlowBoard::of_even_costs(0);
     for (way, extra) in extras.iter().enumerate() {
@@ -151,42 +131,46 @@ fn slow_board(extras: &Costs) -> SlowBoard {
     board
 }
 
-// The first analysis, on the resource as it is built from its parts, over memory as it stands.
-pub fn analyse_on(
-    stand: &Stand,
-    memory: &mut [u8],
-    draft: &Draft,
-    results: Results<'_>,
-) -> Result<(), AnalysisFault> {
-    let Results {
-        bounds,
-        slacks,
-        plan,
-    } = results;
-    let used = stand.bytes.min(memory.len());
-    let cache = WayCache::over(&mut memory[0..used]);
-    match stand.shape {
-        Shape::Cache => analyse(draft, &cache, bounds, slacks, plan),
-        Shape::Banks => analyse(draft, &RowBanks::closed(), bounds, slacks, plan),
-        Shape::Slow => analyse(draft, &slow_board(&stand.extras), bounds, slacks, plan),
-        Shape::Both => analyse(
-            draft,
-            &Pair::new(cache, RowBanks::closed()),
-            bounds,
-            slacks,
-            plan,
-        ),
-        Shape::Reserved => analyse(
-            draft,
-            &Reserve::new(stand.hidden, cache),
-            bounds,
-            slacks,
-            plan,
-        ),
-        Shape::Pile => {
-            let boards = Pair::new(RowBanks::closed(), slow_board(&stand.extras));
-            let pile = Pair::new(Reserve::new(stand.hidden, cache), boards);
-            analyse(draft, &pile, bounds, slacks, plan)
+impl Stand {
+    /// What each way costs.
+    pub fn costs(&self) -> Costs {
+        let cache = cache_costs(self.bytes);
+        let slow = slow_costs(&self.extras);
+        match self.shape {
+            Shape::Cache => cache,
+            Shape::Banks => [1; 8],
+            Shape::Slow => slow,
+            Shape::Both => joined(&cache, &[1; 8]),
+            Shape::Reserved => without_lowest(&cache, self.hidden),
+            Shape::Pile => joined(
+                &without_lowest(&cache, self.hidden),
+                &joined(&[1; 8], &slow),
+            ),
+        }
+    }
+
+    /// The first analysis, on the resource as it is built from its parts, over memory as it stands.
+    pub fn analyse(
+        &self,
+        memory: &mut [u8],
+        draft: &Draft,
+        results: &mut Results<'_>,
+    ) -> Result<(), AnalysisFault> {
+        let used = self.bytes.min(memory.len());
+        let cache = WayCache::over(&mut memory[0..used]);
+        let banks = RowBanks::closed();
+        let slow = slow_board(&self.extras);
+        // A match, and no closure or `dyn`: each shape is a resource of another type, and only its arm makes it.
+        match self.shape {
+            Shape::Cache => results.fill(draft, &cache),
+            Shape::Banks => results.fill(draft, &banks),
+            Shape::Slow => results.fill(draft, &slow),
+            Shape::Both => results.fill(draft, &Pair::new(cache, banks)),
+            Shape::Reserved => results.fill(draft, &Reserve::new(self.hidden, cache)),
+            Shape::Pile => {
+                let reserve = Reserve::new(self.hidden, cache);
+                results.fill(draft, &Pair::new(reserve, Pair::new(banks, slow)))
+            }
         }
     }
 }

@@ -1,15 +1,35 @@
-// The second analysis: the rules worked out in the plainest way, by counting up from the smallest number.
+//! The second analysis: the rules worked out in the plainest way, by counting up from the smallest number.
+ghost use Rattle.std.specs.Prelude.{◌<◌};
+
 use crate::lines::Line;
 use std::alloc::{AllocError, Global};
+use std::array;
 
-// What each of the eight ways costs; 0 where there is no such way.
+/// What each of the eight ways costs; 0 where there is no such way.
 pub type Costs = [u16; 8];
 
-// What is concluded about a floor.
-#[derive(Drop)]
-pub enum Verdict {
-    Accepted(Vec<u32>),
-    Refused { number: u8, detail: usize },
+/// Why a floor is refused: the refusal's number and its detail.
+// Two numbers, and no refusal of the library: the second analysis shares no type with the first, and the numbers are what is compared.
+#[derive(Clone, Copy, PartialEq, Eq)]
+pub struct Refused {
+    pub number: u8,
+    pub detail: usize,
+}
+
+impl Refused {
+    fn new(number: u8, detail: usize) -> Refused {
+        Refused { number, detail }
+    }
+}
+
+/// What is concluded about a floor: a bound for each task, or a refusal.
+pub type Verdict = Result<Vec<u32>, Refused>;
+
+/// The tasks of a floor, and what its ways cost.
+#[derive(Clone, Copy)]
+pub struct Floor<'a> {
+    pub lines: &'a [Line],
+    pub costs: Costs,
 }
 
 // A task with the cost of scrubbing all its guarded ways, and of scrubbing the dearest of them.
@@ -25,137 +45,210 @@ struct Row {
 struct Rival {
     period: u64,
     take: u64,
+    ghost comes_again: { 0 < period },
 }
 
-// Does another task that must not leak to this one use the way too?
-fn is_guarded(lines: &[Line], task: usize, line: Line, way: usize) -> bool {
-    for (other, its) in lines.iter().enumerate() {
-        if other != task && line.uses(way) && its.uses(way) && line.is_apart_from(other) {
-            return true;
+impl Row {
+    // What a job takes that nobody breaks.
+    fn own(&self) -> u64 {
+        u64::from(self.line.budget).saturating_add(self.scrubs)
+    }
+
+    // How long a job, once begun, may keep the core against everybody.
+    fn hold(&self) -> u64 {
+        if self.line.whole {
+            self.own().saturating_sub(1)
+        } else {
+            self.dearest.saturating_sub(1)
         }
     }
-    false
 }
 
-fn row_of(lines: &[Line], costs: &Costs, task: usize, line: Line) -> Row {
-    let mut scrubs = 0u64;
-    let mut dearest = 0u64;
-    for (way, cost) in costs.iter().enumerate() {
-        if is_guarded(lines, task, line, way) {
-            scrubs = scrubs.saturating_add(u64::from(*cost));
-            dearest = dearest.max(u64::from(*cost));
+impl Rival {
+    // How many of its jobs begin in `ticks` ticks, the first at once.
+    fn jobs_within(&self, ticks: u64) -> u64 {
+        ticks.div_ceil(self.period)
+    }
+
+    // The same, with one more where a job also begins at the last tick's end.
+    fn jobs_up_to(&self, ticks: u64) -> u64 {
+        (ticks / self.period).saturating_add(1)
+    }
+}
+
+impl Floor<'_> {
+    // Does another task that must not leak to this one use the way too?
+    fn is_guarded(&self, task: usize, line: &Line, way: usize) -> bool {
+        line.uses(way)
+            && self.lines.iter().enumerate().any(|(other, its)| {
+                other != task && its.uses(way) && line.is_apart_from(other)
+            })
+    }
+
+    // What the guarded ways of a task cost, and 0 for the others.
+    fn guarded_costs(&self, task: usize, line: &Line) -> Costs {
+        array::from_fn(|way| {
+            if self.is_guarded(task, line, way) {
+                self.costs.get(way).copied().unwrap_or(0)
+            } else {
+                0
+            }
+        })
+    }
+
+    fn row(&self, task: usize, line: &Line) -> Row {
+        let guarded = self.guarded_costs(task, line);
+        Row {
+            line: *line,
+            scrubs: guarded
+                .iter()
+                .map(|cost| u64::from(*cost))
+                .fold(0, u64::saturating_add),
+            dearest: guarded.iter().max().copied().map_or(0, u64::from),
         }
     }
-    Row {
-        line,
-        scrubs,
-        dearest,
-    }
-}
 
-fn rows_of(heap: Global, lines: &[Line], costs: &Costs) -> Result<Vec<Row>, AllocError> {
-    let mut rows = Vec::new(heap);
-    for (task, line) in lines.iter().enumerate() {
-        rows.push(row_of(lines, costs, task, *line))?;
+    fn rows(&self, alloc: Global) -> Result<Vec<Row>, AllocError> {
+        self.lines
+            .iter()
+            .enumerate()
+            .map(|(task, line)| self.row(task, line))
+            .collect(alloc)
     }
-    Ok(rows)
+
+    /// The bound of one task of the floor, as if its deadline were its period.
+    pub fn bound_in_period(&self, alloc: Global, task: usize) -> Result<Option<u32>, AllocError> {
+        let rows = self.rows(alloc)?;
+        let Some(row) = rows.get(task) else {
+            return Ok(None);
+        };
+        let mut free = *row;
+        free.line.deadline = row.line.period;
+        bound_of(alloc, &rows, task, &free)
+    }
+
+    // Does the task use a way that is not there?
+    fn strays(&self, line: &Line) -> bool {
+        self.costs
+            .iter()
+            .enumerate()
+            .any(|(way, cost)| *cost == 0 && line.uses(way))
+    }
+
+    fn first_stray(&self) -> Option<usize> {
+        self.lines.iter().position(|line| self.strays(line))
+    }
+
+    fn is_used(&self, way: usize) -> bool {
+        self.lines.iter().any(|line| line.uses(way))
+    }
+
+    fn first_dear(&self) -> Option<usize> {
+        self.costs
+            .iter()
+            .enumerate()
+            .position(|(way, cost)| *cost > 1_000 && self.is_used(way))
+    }
+
+    // Is the floor one whose bounds can be asked for, with lists of so many places at least?
+    fn check(&self, places: usize) -> Result<(), Refused> {
+        if self.lines.is_empty() {
+            return Err(Refused::new(10, 0));
+        }
+        if let Some(task) = self.first_stray() {
+            return Err(Refused::new(11, task));
+        }
+        if let Some(way) = self.first_dear() {
+            return Err(Refused::new(12, way));
+        }
+        if places < self.lines.len() {
+            return Err(Refused::new(13, 0));
+        }
+        Ok(())
+    }
+
+    /// The verdict on a floor, with lists of so many places at least.
+    pub fn conclude(&self, alloc: Global, places: usize) -> Result<Verdict, AllocError> {
+        // Two kinds of answer in one, and so no `?`: want of memory is an error of the program, a refusal is a verdict.
+        match self.check(places) {
+            Ok(()) => bounds_of(alloc, &self.rows(alloc)?),
+            Err(refused) => Ok(Err(refused)),
+        }
+    }
 }
 
 // The dearest resumption of a split task below `above`, down to `task`.
 fn resumption(rows: &[Row], above: usize, task: usize) -> u64 {
-    let mut most = 0;
-    for (k, row) in rows.iter().enumerate() {
-        if above < k && k <= task && !row.line.whole {
-            most = most.max(row.scrubs);
-        }
-    }
-    most
+    rows.iter()
+        .take(task.saturating_add(1))
+        .skip(above.saturating_add(1))
+        .filter(|row| !row.line.whole)
+        .map(|row| row.scrubs)
+        .max()
+        .unwrap_or(0)
 }
 
-// How long a job of the task, once begun, may keep the core against everybody.
-fn hold(row: &Row) -> u64 {
-    if row.line.whole {
-        row.scrubs
-            .saturating_add(u64::from(row.line.budget))
-            .saturating_sub(1)
-    } else {
-        row.dearest.saturating_sub(1)
-    }
-}
-
+// The longest that a task below keeps the core; below the first, the task itself counts too.
 fn blocking(rows: &[Row], task: usize) -> u64 {
-    let mut most = 0;
-    for (l, row) in rows.iter().enumerate() {
-        if l > task || (l == task && task > 0) {
-            most = most.max(hold(row));
-        }
-    }
-    most
+    rows.iter()
+        .skip(task.max(1))
+        .map(|row| row.hold())
+        .max()
+        .unwrap_or(0)
 }
 
-fn rivals_of(heap: Global, rows: &[Row], task: usize) -> Result<Vec<Rival>, AllocError> {
-    let mut rivals = Vec::new(heap);
-    for (j, row) in rows.iter().enumerate() {
-        if j < task {
-            let own = u64::from(row.line.budget).saturating_add(row.scrubs);
-            rivals.push(Rival {
-                period: u64::from(row.line.period).max(1),
-                take: own.saturating_add(resumption(rows, j, task)),
-            })?;
-        }
+fn rival_at(rows: &[Row], j: usize, task: usize, row: &Row) -> Rival {
+    Rival {
+        period: u64::from(row.line.period).max(1),
+        take: row.own().saturating_add(resumption(rows, j, task)),
     }
-    Ok(rivals)
 }
 
-// What the rivals take if each has as many jobs as begin in `ticks` ticks, the first at once, or with one more where they also
-// begin at the last tick's end.
-fn taken(rivals: &[Rival], ticks: u64, at_end: bool) -> u64 {
-    let mut sum = 0u64;
-    for rival in rivals {
-        let jobs = if rival.period == 0 {
-            0
-        } else if at_end {
-            (ticks / rival.period).saturating_add(1)
-        } else {
-            ticks.div_ceil(rival.period)
-        };
-        sum = sum.saturating_add(jobs.saturating_mul(rival.take));
-    }
-    sum
+fn rivals_of(alloc: Global, rows: &[Row], task: usize) -> Result<Vec<Rival>, AllocError> {
+    rows.iter()
+        .enumerate()
+        .take(task)
+        .map(|(j, row)| rival_at(rows, j, task, row))
+        .collect(alloc)
+}
+
+// What the rivals take if each has so many jobs.
+fn taken<F: Fn(&Rival) -> u64>(rivals: &[Rival], jobs: F) -> u64
+    requires { F.IsAlwaysCallable jobs }
+{
+    rivals.iter().fold(0u64, |sum, rival| {
+        sum.saturating_add(jobs(rival).saturating_mul(rival.take))
+    })
 }
 
 // The first r from 1 on that covers the task's own job, the blocking and its rivals' jobs, up to the deadline.
 fn split_bound(row: &Row, rivals: &[Rival], blocked: u64) -> Option<u32> {
-    let own = u64::from(row.line.budget).saturating_add(row.scrubs);
-    let base = blocked.saturating_add(own);
-    for r in 1..=row.line.deadline {
-        let ticks = u64::from(r);
-        if base.saturating_add(taken(rivals, ticks, false)) <= ticks {
-            return Some(r);
-        }
-    }
-    None
+    let base = blocked.saturating_add(row.own());
+    (1..=row.line.deadline).find(|r| {
+        let ticks = u64::from(*r);
+        base.saturating_add(taken(rivals, |rival| rival.jobs_within(ticks))) <= ticks
+    })
 }
 
 // The first start s from 0 on that covers the blocking and the rivals' jobs, and then the whole job without a break.
 fn whole_bound(row: &Row, rivals: &[Rival], blocked: u64) -> Option<u32> {
-    let own = row.scrubs.saturating_add(u64::from(row.line.budget));
-    for s in 0..=row.line.deadline {
-        let ticks = u64::from(s);
-        if blocked.saturating_add(taken(rivals, ticks, true)) <= ticks {
-            let bound = ticks.saturating_add(own);
-            return if bound <= u64::from(row.line.deadline) {
-                Some(bound as u32)
-            } else {
-                None
-            };
-        }
-    }
-    None
+    let start = (0..=row.line.deadline).find(|s| {
+        let ticks = u64::from(*s);
+        blocked.saturating_add(taken(rivals, |rival| rival.jobs_up_to(ticks))) <= ticks
+    })?;
+    let bound = u64::from(start).saturating_add(row.own());
+    u32::try_from(bound)
+        .ok()
+        .filter(|bound| *bound <= row.line.deadline)
 }
 
-fn bound_of(heap: Global, rows: &[Row], task: usize, row: &Row) -> Result<Option<u32>, AllocError> {
-    let rivals = rivals_of(heap, rows, task)?;
+fn bound_of(
+    alloc: Global,
+    rows: &[Row],
+    task: usize,
+    row: &Row,
+) -> Result<Option<u32>, AllocError> {
+    let rivals = rivals_of(alloc, rows, task)?;
     let blocked = blocking(rows, task);
     if row.line.whole {
         Ok(whole_bound(row, &rivals, blocked))
@@ -164,97 +257,15 @@ fn bound_of(heap: Global, rows: &[Row], task: usize, row: &Row) -> Result<Option
     }
 }
 
-// The bound of one task of the floor, as if its deadline were its period.
-pub fn bound_in_period(
-    heap: Global,
-    lines: &[Line],
-    costs: &Costs,
-    task: usize,
-) -> Result<Option<u32>, AllocError> {
-    let rows = rows_of(heap, lines, costs)?;
-    match rows.get(task) {
-        Some(row) => {
-            let mut free = *row;
-            free.line.deadline = row.line.period;
-            bound_of(heap, &rows, task, &free)
-        }
-        None => Ok(None),
-    }
-}
-
-// Does the task use a way that is not there?
-fn strays(line: Line, costs: &Costs) -> bool {
-    for (way, cost) in costs.iter().enumerate() {
-        if *cost == 0 && line.uses(way) {
-            return true;
-        }
-    }
-    false
-}
-
-fn first_stray(lines: &[Line], costs: &Costs) -> Option<usize> {
-    for (task, line) in lines.iter().enumerate() {
-        if strays(*line, costs) {
-            return Some(task);
-        }
-    }
-    None
-}
-
-fn is_used(lines: &[Line], way: usize) -> bool {
-    for line in lines {
-        if line.uses(way) {
-            return true;
-        }
-    }
-    false
-}
-
-fn first_dear(lines: &[Line], costs: &Costs) -> Option<usize> {
-    for (way, cost) in costs.iter().enumerate() {
-        if *cost > 1_000 && is_used(lines, way) {
-            return Some(way);
-        }
-    }
-    None
-}
-
 // The bounds of all tasks, or a refusal for the first that has none.
-fn bounds_of(heap: Global, rows: &[Row]) -> Result<Verdict, AllocError> {
-    let mut bounds = Vec::new(heap);
+fn bounds_of(alloc: Global, rows: &[Row]) -> Result<Verdict, AllocError> {
+    let mut bounds = Vec::new(alloc);
     for (task, row) in rows.iter().enumerate() {
-        match bound_of(heap, rows, task, row)? {
+        match bound_of(alloc, rows, task, row)? {
             Some(bound) => bounds.push(bound)?,
-            None => {
-                return Ok(Verdict::Refused {
-                    number: 14,
-                    detail: task,
-                });
-            }
+            // Two kinds of answer in one, and so no `?`: want of memory is an error of the program, a refusal is a verdict.
+            None => return Ok(Err(Refused::new(14, task))),
         }
     }
-    Ok(Verdict::Accepted(bounds))
-}
-
-// The verdict on a floor, with lists of so many places at least.
-pub fn conclude(
-    heap: Global,
-    lines: &[Line],
-    costs: &Costs,
-    places: usize,
-) -> Result<Verdict, AllocError> {
-    let refused = if lines.is_empty() {
-        (10, 0)
-    } else if let Some(task) = first_stray(lines, costs) {
-        (11, task)
-    } else if let Some(way) = first_dear(lines, costs) {
-        (12, way)
-    } else if places < lines.len() {
-        (13, 0)
-    } else {
-        let rows = rows_of(heap, lines, costs)?;
-        return bounds_of(heap, &rows);
-    };
-    let (number, detail) = refused;
-    Ok(Verdict::Refused { number, detail })
+    Ok(Ok(bounds))
 }

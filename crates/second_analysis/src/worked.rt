@@ -1,6 +1,6 @@
-// Floors whose bounds were worked out by hand, for the second analysis alone.
+//! Floors whose bounds were worked out by hand, for the second analysis alone.
 use crate::lines::Line;
-use crate::second::{Costs, Verdict, conclude};
+use crate::second::{Costs, Floor, Verdict};
 use std::alloc::{AllocError, Global};
 
 const PICK: Line = Line {
@@ -40,32 +40,34 @@ const ALONE: Line = Line {
 };
 
 fn is_accepted_with(second: &Verdict, expected: &[u32]) -> bool {
-    match second {
-        Verdict::Accepted(bounds) => bounds.as_slice() == expected,
-        Verdict::Refused { .. } => false,
-    }
+    matches!(second, Ok(bounds) if bounds.as_slice() == expected)
 }
 
 fn has_no_bound_for(second: &Verdict, task: usize) -> bool {
-    match second {
-        Verdict::Accepted(_) => false,
-        Verdict::Refused { number, detail } => *number == 14 && *detail == task,
-    }
+    matches!(second, Err(refused) if refused.number == 14 && refused.detail == task)
+}
+
+// The second analysis of these tasks, with a place for each.
+fn conclude(alloc: Global, lines: &[Line], costs: Costs) -> Result<Verdict, AllocError> {
+    Floor { lines, costs }.conclude(alloc, lines.len())
 }
 
 // Three tasks that share a way, then with a shorter deadline for the last, then each on a way of its own.
-fn three_tasks(heap: Global, costs: &Costs) -> Result<bool, AllocError> {
-    let shared = conclude(heap, &[PICK, SEAL, SEND], costs, 3)?;
-    let mut sooner = SEND;
-    sooner.deadline = 59;
-    let tight = conclude(heap, &[PICK, SEAL, sooner], costs, 3)?;
-    sooner.deadline = 58;
-    let late = conclude(heap, &[PICK, SEAL, sooner], costs, 3)?;
-    let mut seal = SEAL;
-    seal.ways = 2;
-    let mut send = SEND;
-    send.ways = 4;
-    let apart = conclude(heap, &[PICK, seal, send], costs, 3)?;
+fn three_tasks(alloc: Global, costs: Costs) -> Result<bool, AllocError> {
+    let shared = conclude(alloc, &[PICK, SEAL, SEND], costs)?;
+    let sooner = Line {
+        deadline: 59,
+        ..SEND
+    };
+    let tight = conclude(alloc, &[PICK, SEAL, sooner], costs)?;
+    let too_soon = Line {
+        deadline: 58,
+        ..SEND
+    };
+    let late = conclude(alloc, &[PICK, SEAL, too_soon], costs)?;
+    let seal = Line { ways: 2, ..SEAL };
+    let send = Line { ways: 4, ..SEND };
+    let apart = conclude(alloc, &[PICK, seal, send], costs)?;
     Ok(
         is_accepted_with(&shared, &[7, 12, 59])
             && is_accepted_with(&tight, &[7, 12, 59])
@@ -75,16 +77,15 @@ fn three_tasks(heap: Global, costs: &Costs) -> Result<bool, AllocError> {
 }
 
 // One whole task that fills its period, and one that asks for more.
-fn one_task(heap: Global, costs: &Costs) -> Result<bool, AllocError> {
-    let full = conclude(heap, &[ALONE], costs, 1)?;
-    let mut greedy = ALONE;
-    greedy.budget = 6;
-    let over = conclude(heap, &[greedy], costs, 1)?;
+fn one_task(alloc: Global, costs: Costs) -> Result<bool, AllocError> {
+    let full = conclude(alloc, &[ALONE], costs)?;
+    let greedy = Line { budget: 6, ..ALONE };
+    let over = conclude(alloc, &[greedy], costs)?;
     Ok(is_accepted_with(&full, &[5]) && has_no_bound_for(&over, 0))
 }
 
-// Does the second analysis conclude on all of them as by hand, where each way costs 2?
-pub fn are_as_by_hand(heap: Global) -> Result<bool, AllocError> {
+/// Does the second analysis conclude on all of them as by hand, where each way costs 2?
+pub fn are_as_by_hand(alloc: Global) -> Result<bool, AllocError> {
     let costs = [2u16; 8];
-    Ok(three_tasks(heap, &costs)? && one_task(heap, &costs)?)
+    Ok(three_tasks(alloc, costs)? && one_task(alloc, costs)?)
 }
