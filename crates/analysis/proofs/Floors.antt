@@ -20,11 +20,12 @@ use Rattle.analysis.specs.Floor.{Floor}
 use Rattle.analysis.specs.Charges.{scrub_cost}
 use Rattle.analysis.specs.Bounds.{IsLeast, IsStart, IsBound, IsBoundOf, Accepted, split_demand, whole_demand}
 use Rattle.analysis.specs.FloorOf.{floor_of, figures_at, no_figures, FiguresOf}
+use Rattle.analysis.specs.Priced.{Priced}
 
 -- a table without a task
-pub tasks-none : (p : PricedDraft) → p.draft ≡ nothing → (priced_floor p).tasks ≡ 0
+pub tasks-none : (t : Table) (cost : ℕ → ℕ) → t ≡ nothing → (floor_of t cost).tasks ≡ 0
 unfolding floor_of
-tasks-none p e = ap count e
+tasks-none t cost e = ap count e
 
 -- the figures of a task are those of the floor
 pub figures-at : (ts : List Task) (i : ℕ) (x : Figures) → figures_of (task_at ts i) ≡ Ok x → (i < length ts) × (figures_at ts i ≡ x)
@@ -129,6 +130,10 @@ accepted-kept f bound a i l = record {
       (bool_tells (f.whole i));
   met = ∥∥₁_elim a le_prop (λ h. (h i l).met);
 }
+
+-- and that its ways are priced
+pub priced-kept : (f : Floor) → ∥ Priced f ∥₁ → Priced f
+priced-kept f a i w l u = (∥∥₁_elim a le_prop (λ h. (h i w l u).0), ∥∥₁_elim a le_prop (λ h. (h i w l u).1))
 
 -- an answer, or figures that are all 0, are those of the number
 pub figures-or-none : (ts : List Task) (i : ℕ) → result_unwrap_or (figures_of (task_at ts i)) no_figures ≡ figures_at ts i

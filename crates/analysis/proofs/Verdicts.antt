@@ -60,13 +60,13 @@ cheap-way : (f : Floor) (w i : ℕ) → dear f w ≡ false → i < f.tasks → f
 unfolding dear
 cheap-way f w i h l u = let s = some-true f.tasks (λ k. f.uses k w) i l u in grind (arith, nat_tests)
 
-pub priced-from : (t : Table) (x : Seen) (room : ℕ) → Sound x → Ready (asked_floor t x) x.ways room → Priced (asked_floor t x)
+pub priced-from : (t : Table) (x : Seen) (cost : ℕ → ℕ) (room : ℕ) → Sound x → ((w : ℕ) → cost w ≡ told16 (x.cost w)) → Ready (floor_of t cost) x.ways room → Priced (floor_of t cost)
 unfolding floor_of
-priced-from t x room ok r i w l u =
-    let b = uses-below t (λ w. told16 (x.cost w)) i w u in
-    let a = stray-way (asked_floor t x) x.ways i w (r.there i l) b u in
+priced-from t x cost room ok h r i w l u =
+    let b = uses-below t cost i w u in
+    let a = stray-way (floor_of t cost) x.ways i w (r.there i l) b u in
     let one = ok.priced w a in
-    (omega arith, cheap-way (asked_floor t x) w i (r.cheap w b) l u)
+    (omega (arith, h w), cheap-way (floor_of t cost) w i (r.cheap w b) l u)
 
 -- the plan's floor is the one asked about
 pub plan-asked : (t : Table) (x : Seen) (p : Plan) → PlanFor t x p → plan_floor p ≡ asked_floor t x

@@ -30,22 +30,29 @@ module _ (f : Floor) (x : Seen) where
   same-cost w e = ⊎_elim (λ p. p.1) (λ p. let z : ◌≡◌ {A = ℕ} 0 1 = ap (λ b. cond b 0 1) (sym (ap not p.0) ∙ e) in absurd (omega arith)) (eqb_tells (told16 (x.cost w)) (f.cost w))
 
   -- refused at the lowest way of another cost
-  pub start-other : 1 ≤ f.tasks → f.ways ≡ 8 → (w : ℕ) → IsFirstBelow 8 (differs f x) (Some w) → starting f x ≡ Err (OtherCosts w)
+  pub start-other : (w : ℕ) → 1 ≤ f.tasks → StandsFor f.ways (first_below f.ways (differs f x)) (Some w) → starting f x ≡ Err (OtherCosts w)
   unfolding starting
-  start-other l n w found =
-      let h : StandsFor f.ways (first_below f.ways (differs f x)) (Some w) = first_stands f.ways (differs f x) (Some w) (subst (λ (m : ℕ). IsFirstBelow m (differs f x) (Some w)) (sym n) found) in
+  start-other w l h =
       let t : eqb f.tasks 0 ≡ false = grind (arith, nat_tests) in
       let e : first_below f.ways (differs f x) ≡ w = sym h.0 in
       let b : ltb (first_below f.ways (differs f x)) f.ways ≡ true = let i = h.1 in grind (arith, nat_tests) in
       simp (t, b) (ap (λ (v : ℕ). Err (OtherCosts v)) e)
 
-  pub start-goes : 1 ≤ f.tasks → f.ways ≡ 8 → IsFirstBelow 8 (differs f x) None → starting f x ≡ Ok tt
+  pub start-goes : 1 ≤ f.tasks → StandsFor f.ways (first_below f.ways (differs f x)) None → starting f x ≡ Ok tt
   unfolding starting
-  start-goes l n found =
-      let h : f.ways ≤ first_below f.ways (differs f x) = first_stands f.ways (differs f x) None (subst (λ (m : ℕ). IsFirstBelow m (differs f x) None) (sym n) found) in
+  start-goes l h =
       let t : eqb f.tasks 0 ≡ false = grind (arith, nat_tests) in
       let b : ltb (first_below f.ways (differs f x)) f.ways ≡ false = grind (arith, nat_tests) in
       simp (t, b)
+
+  -- the same by what a search of eight ways found
+  pub other-found : 1 ≤ f.tasks → f.ways ≡ 8 → (w : ℕ) → IsFirstBelow 8 (differs f x) (Some w) → starting f x ≡ Err (OtherCosts w)
+  other-found l n w found =
+      start-other w l (first_stands f.ways (differs f x) (Some w) (subst (λ (m : ℕ). IsFirstBelow m (differs f x) (Some w)) (sym n) found))
+
+  pub none-found : 1 ≤ f.tasks → f.ways ≡ 8 → IsFirstBelow 8 (differs f x) None → starting f x ≡ Ok tt
+  none-found l n found =
+      start-goes l (first_stands f.ways (differs f x) None (subst (λ (m : ℕ). IsFirstBelow m (differs f x) None) (sym n) found))
 
   -- one that is not refused finds the floor's costs
   pub start-costs : starting f x ≡ Ok tt → (w : ℕ) → w < f.ways → told16 (x.cost w) ≡ f.cost w

@@ -17,18 +17,20 @@ use Rattle.analysis.proofs.Floors.{in-range}
 use Rattle.way_cache.specs.Marks.{marks_seen, ways_in}
 use Rattle.report.specs.Report.{box_floor, Settled}
 
+-- an empty cache of eight ways has 256 marks
+pub empty-marks : (marks : List ℕ) → marks ≡ replicate 256 255 → length marks ≡ 256
+empty-marks marks e = ap length e ∙ length-replicate {A = ℕ} _ 255
+
 -- 256 marks are eight ways
-pub eight-ways : (marks : List ℕ) → marks ≡ replicate 256 255 → ways_in marks ≡ 8
-eight-ways marks e =
-    let long : length marks ≡ 256 = ap length e ∙ length-replicate {A = ℕ} _ 255 in
-    ap (λ (n : ℕ). min (n / 32) 8) long
+pub eight-ways : (marks : List ℕ) → length marks ≡ 256 → ways_in marks ≡ 8
+eight-ways marks e = ap (λ (n : ℕ). min (n / 32) 8) e
 
 told-cost : (b : Bool) → told16 (cond b 2 0) ≡ cond b 2 0
 told-cost true = refl
 told-cost false = refl
 
 -- so the floor asked of them is the box's
-pub asked-box : (t : Table) (marks : List ℕ) → marks ≡ replicate 256 255 →
+pub asked-box : (t : Table) (marks : List ℕ) → length marks ≡ 256 →
     asked_floor t (marks_seen marks) ≡ box_floor t
 asked-box t marks e =
     let two = λ (n w : ℕ). cond (ltb w n) 2 0 in

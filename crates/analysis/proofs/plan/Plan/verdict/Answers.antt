@@ -1,5 +1,6 @@
-use Rattle.std.proofs.Common.{get_or, sym, subst, ◌∙◌}
+use Rattle.std.proofs.Common.{get_or, sym, refl, subst, ◌∙◌}
 use Rattle.std.proofs.lemmas.Result.{err_from_is_err_and}
+use Rattle.resource.specs.Answers.{told16}
 use Rattle.analysis.specs.declared.plan.Plan.{Plan}
 use Rattle.analysis.specs.After.{PlanFor}
 use Rattle.analysis.specs.Bounds.{Accepted}
@@ -35,6 +36,6 @@ invariant_of-result g c =
     let same = priced-asked c.new-floor.result c.args.draft.now c.of_resource.result x c.new-floor.ensures.draft c.new-floor.ensures.costs c.of_resource.ensures in
     let r = ready-as _ f c.way_count-ways.result x.ways c.args.room same c.way_count-ways.ensures.count c.in_ok-check.ensures in
     record {
-      priced = subst Priced (sym same) (priced-from c.args.draft.now x c.args.room c.way_count-ways.ensures.sound r);
+      priced = subst Priced (sym same) (priced-from c.args.draft.now x (λ w. told16 (x.cost w)) c.args.room c.way_count-ways.ensures.sound (λ w. refl) r);
       accepted = ∣ subst (λ (h : Floor). Accepted h (λ i. get_or c.in_ok-bounds.bounds i 0)) c.of.ensures c.in_ok-bounds.ensures ∣₁;
     }
