@@ -1,14 +1,12 @@
 //! The row banks as a resource.
-ghost use Rattle.std.specs.Prelude.{◌≡◌, ℕ, ◌/◌, if◌then◌else◌};
-ghost use Rattle.resource.specs.Seen.{touched};
-ghost use Rattle.row_banks.specs.declared.bank.Bank.TheVariants.{Closed, Open};
-ghost use Rattle.row_banks.specs.Board.{bank_at, banks_seen, banks_meaning, Opens};
+ghost use Rattle.std.specs.Prelude.{◌≡◌, ℕ, ◌&&◌, if◌then◌else◌, ◌==◌, nat_lt};
+ghost use Rattle.row_banks.specs.declared.bank.Bank.TheVariants.{Closed};
+ghost use Rattle.row_banks.specs.Board.{bank_at, banks_meaning};
 
 use crate::bank::Bank;
 use resource::answer::Progress;
 use resource::resource::Resource;
 use sets::number_set::WaySet;
-use std::array;
 
 /// The eight banks, one for each way.
 #[derive(Drop)]
@@ -36,26 +34,13 @@ impl RowBanks {
             .unwrap_or(Bank::Closed)
     }
 
-    // The bank of a way after a run call. `from_fn` tells a usize; below 8 the cast is the number itself.
-    // The slow board has its own: each makes a value of its own type, and only the guard would be shared.
-    fn bank_after_run(&self, way: usize, task: u8, ways: WaySet, address: u32) -> Bank
-        ensures { let touches = touched (banks_seen self.now) task ways way in
-            result ≡ (if touches then Open (address / 1024) task else bank_at self.now way) }
+    // Puts the bank of one way into this state.
+    fn put(&mut self, way: u8, bank: Bank)
+        ensures { let this = λ (w : ℕ). nat_lt w 8 && w == way in
+            (w : ℕ) → bank_at self.new w ≡ (if this w then bank else bank_at self.old w) }
     {
-        let row = address / 1024;
-        if task < 16 && way < 8 && ways.contains(way as u8) {
-            Bank::Open { row, owner: task }
-        } else {
-            self.banks.get(way).copied().unwrap_or(Bank::Closed)
-        }
-    }
-
-    // The board after a run call.
-    fn after_run(&self, task: u8, ways: WaySet, address: u32) -> RowBanks
-        ensures { Opens self.now task ways address result }
-    {
-        RowBanks {
-            banks: array::from_fn(|way| self.bank_after_run(way, task, ways, address)),
+        if way < 8 {
+            self.banks[way as usize] = bank;
         }
     }
 }
@@ -76,13 +61,19 @@ impl Resource for RowBanks {
     }
 
     fn run(&mut self, task: u8, ways: WaySet, address: u32) {
-        *self = self.after_run(task, ways, address);
+        // A loop, since `from_fn` would write all eight places at each call.
+        if task < 16 {
+            let row = address / 1024;
+            for way in 0..8u8 {
+                if ways.contains(way) {
+                    self.put(way, Bank::Open { row, owner: task });
+                }
+            }
+        }
     }
 
     fn scrub(&mut self, way: u8) -> Progress {
-        if way < 8 {
-            self.banks[way as usize] = Bank::Closed;
-        }
+        self.put(way, Bank::Closed);
         Progress::Done
     }
 }

@@ -1,14 +1,12 @@
 //! The board as a resource.
 ghost use Rattle.std.specs.Prelude.{◌≡◌, ℕ, ◌&&◌, if◌then◌else◌, ◌==◌, nat_lt};
-ghost use Rattle.resource.specs.Seen.{touched};
-ghost use Rattle.slow_board.specs.Slots.{fresh, entered};
-ghost use Rattle.slow_board.specs.Board.{slot_at, board_seen, board_meaning};
+ghost use Rattle.slow_board.specs.Slots.{fresh};
+ghost use Rattle.slow_board.specs.Board.{slot_at, board_meaning};
 
 use crate::slot::Slot;
 use resource::answer::Progress;
 use resource::resource::Resource;
 use sets::number_set::WaySet;
-use std::array;
 
 /// The eight ways of the board, one slot for each.
 #[derive(Drop)]
@@ -44,32 +42,6 @@ impl SlowBoard {
             .unwrap_or(Slot::clean(0))
     }
 
-    // The state of a way after a run call. `from_fn` tells a usize; below 8 the cast is the number itself.
-    // The row banks have their own: each makes a value of its own type, and only the guard would be shared.
-    fn slot_after_run(&self, way: usize, task: u8, ways: WaySet) -> Slot
-        ensures { let touches = touched (board_seen self.now) task ways way in
-            let old = slot_at self.now way in
-            result ≡ (if touches then entered old task else old) }
-    {
-        let slot = self.slots.get(way).copied().unwrap_or(Slot::clean(0));
-        if task < 16 && way < 8 && ways.contains(way as u8) {
-            slot.run_by(task)
-        } else {
-            slot
-        }
-    }
-
-    // The board after a run call.
-    fn after_run(&self, task: u8, ways: WaySet) -> SlowBoard
-        ensures { let touches = touched (board_seen self.now) task ways in
-            let old = slot_at self.now in
-            (w : ℕ) → slot_at result w ≡ (if touches w then entered (old w) task else old w) }
-    {
-        SlowBoard {
-            slots: array::from_fn(|way| self.slot_after_run(way, task, ways)),
-        }
-    }
-
     // Puts one way into this state.
     fn put(&mut self, way: u8, slot: Slot)
         ensures { let this = λ (w : ℕ). nat_lt w 8 && w == way in
@@ -101,7 +73,15 @@ impl Resource for SlowBoard {
     }
 
     fn run(&mut self, task: u8, ways: WaySet, address: u32) {
-        *self = self.after_run(task, ways);
+        // A loop, since `from_fn` would write all eight places at each call.
+        if task < 16 {
+            for way in 0..8u8 {
+                if ways.contains(way) {
+                    let after = self.slot(way).run_by(task);
+                    self.put(way, after);
+                }
+            }
+        }
     }
 
     fn scrub(&mut self, way: u8) -> Progress {
