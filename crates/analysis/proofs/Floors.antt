@@ -1,11 +1,13 @@
 -- What holds of the floor that a table makes.
-use Rattle.std.proofs.Common.{◌≡◌, ℕ, zero, suc, ◌+◌, ◌-◌, ◌<◌, ◌≤◌, Bool, true, false, List, [], ◌∷◌, length, is_ok, Ok, Err, Result, sym, refl, ap, subst, ⊎_elim, arith}
+use Rattle.std.proofs.Common.{◌≡◌, ℕ, zero, suc, ◌+◌, ◌-◌, ◌<◌, ◌≤◌, Bool, true, false, nat_lt, List, [], ◌∷◌, length, is_ok, Ok, Err, Result, sym, refl, ap, subst, ⊎_elim, arith}
 use mathlib.Core.Logic.{∥∥₁_elim}
 use native.Mathlib.Bridge.{le_prop}
 use native.Mathlib.Nat.{ℕ_set}
 use Rattle.std.proofs.lemmas.Bool.Decides.{nat_tests}
-use Rattle.sets.specs.Sets.{has}
-use Rattle.sets.proofs.Below.{bool_tells}
+use Rattle.sets.specs.Sets.{has, is_memberless}
+use Rattle.sets.specs.declared.number_set.NumberSet.{NumberSet}
+use Rattle.sets.proofs.Below.{bool_tells, none-at}
+use Rattle.sets.specs.Below.{some_below}
 use Rattle.std.specs.Result.{result_unwrap_or}
 use Rattle.taskset.specs.declared.fault.DraftFault.{DraftFault}
 use Rattle.taskset.specs.declared.fault.DraftFault.TheVariants.{Unlisted}
@@ -21,6 +23,16 @@ use Rattle.analysis.specs.Charges.{scrub_cost}
 use Rattle.analysis.specs.Bounds.{IsLeast, IsStart, IsBound, IsBoundOf, Accepted, split_demand, whole_demand}
 use Rattle.analysis.specs.FloorOf.{floor_of, figures_at, no_figures, FiguresOf}
 use Rattle.analysis.specs.Priced.{Priced}
+
+-- where nobody is in a set, no number is
+pub none-has : {n : ℕ} (s : NumberSet n) → is_memberless s ≡ true → (k : ℕ) → has s k ≡ false
+unfolding is_memberless has
+none-has {n} s e k =
+    let none : some_below n (has s) ≡ false = grind arith in
+    ⊎_elim
+    (λ p. none-at n (has s) none k (grind (arith, nat_tests, p)))
+    (λ p. grind (arith, p))
+    (bool_tells (nat_lt k n))
 
 -- a table without a task
 pub tasks-none : (t : Table) (cost : ℕ → ℕ) → t ≡ nothing → (floor_of t cost).tasks ≡ 0

@@ -139,7 +139,7 @@ impl Plan {
         ensures { result ≡ allowance_asked self.now task }
     {
         if task < self.count() {
-            Ok(Sheet::of(&self.floor).allowance(task))
+            Ok(self.floor.allowance(task))
         } else {
             Err(DraftFault::Unlisted)
         }

@@ -3,14 +3,14 @@ ghost use Rattle.std.specs.Prelude.{◌≡◌, ℕ, ◌<◌, ◌≤◌, ◌&&◌
 ghost use Rattle.sets.specs.Below.{some_below};
 ghost use Rattle.sets.specs.Sets.{has};
 ghost use Rattle.taskset.specs.Table.{count as table_count, IsLawful};
-ghost use Rattle.analysis.specs.Charges.{guarded, threatens};
+ghost use Rattle.analysis.specs.Charges.{allowance, guarded, resumption, threatens};
 ghost use Rattle.analysis.specs.FloorOf.{figures_at};
 
 use crate::costs::WayCosts;
 use crate::row::Row;
 use sets::number_set::WaySet;
 use taskset::draft::Draft;
-use taskset::task::{Figures, Kind};
+use taskset::task::Figures;
 
 /// A draft, how many tasks it has, and what each of the ways that it runs on costs.
 #[derive(Clone, Copy)]
@@ -50,13 +50,7 @@ impl PricedDraft {
     pub fn figures_at(&self, task: u8) -> Figures
         ensures { result ≡ figures_at self.now.draft.tasks task }
     {
-        self.draft.figures(task).unwrap_or(Figures {
-            period: 0,
-            budget: 0,
-            deadline: 0,
-            ways: WaySet::empty(),
-            kind: Kind::Split,
-        })
+        self.draft.figures(task).unwrap_or(Row::blank().figures)
     }
 
     /// Does the task use the way?
@@ -91,26 +85,21 @@ impl PricedDraft {
         }
     }
 
-    // The ways on which any other task may leave a trace that this task must not see.
-    fn all_threats(&self, task: u8) -> WaySet
-        ensures { let f = priced_floor self.now in
-            (w : ℕ) → has result w ≡ some_below f.tasks (λ k. threatens f k task w) }
-    {
-        // a fold would be no plainer: its proof needs the same sentence, about the ways so far
-        let mut ways = WaySet::empty();
-        for other in 0..self.count() {
-            ways = ways.union(self.threats(other, task));
-        }
-        ways
-    }
-
-    // The ways that are guarded for a task.
+    // The ways that are guarded for a task: those of its ways on which any other task may leave a trace that it must not see.
     fn guarded_ways(&self, task: u8) -> WaySet
         ensures { (w : ℕ) → has result w ≡ guarded (priced_floor self.now) task w }
     {
-        self.figures_at(task)
-            .ways
-            .intersection(self.all_threats(task))
+        // a fold would be no plainer: its proof needs the same sentence, about the ways so far
+        let ways = self.figures_at(task).ways;
+        let mut guarded = WaySet::empty();
+        for other in 0..self.count() {
+            // all of them: the others can add none
+            if guarded == ways {
+                return ways;
+            }
+            guarded = guarded.union(ways.intersection(self.threats(other, task)));
+        }
+        guarded
     }
 
     // The cost of a way that is in the set, and 0 of any other.
@@ -128,13 +117,41 @@ impl PricedDraft {
     pub fn row(&self, task: u8) -> Row
         ensures { result ≡ row_of self.now task }
     {
+        let figures = self.figures_at(task);
         let guarded = self.guarded_ways(task);
+        if guarded.is_empty() {
+            return Row {
+                figures,
+                ..Row::blank()
+            };
+        }
         let costs = (0..8).map(|way| self.cost_among(guarded, way));
         let dearest = (0..8).map(|way| self.cost_among(guarded, way));
         Row {
-            figures: self.figures_at(task),
+            figures,
             scrub: costs.sum(),
             dearest: dearest.max().unwrap_or(0),
         }
+    }
+
+    // What task k has to be scrubbed for again, where task j preempts it. A sheet asks the same of the rows that it keeps; here no row is
+    // made but those that are asked for.
+    fn resumption(&self, j: u8, k: u8) -> u32
+        ensures { result ≡ resumption (priced_floor self.now) j k }
+    {
+        let is_whole = self.figures_at(k).kind.is_whole();
+        if j < k && !is_whole {
+            self.row(k).scrub
+        } else {
+            0
+        }
+    }
+
+    /// The ticks of scrubbing that one job of task j brings into a run: its own scrubs, and those of the task that it makes resume.
+    pub fn allowance(&self, j: u8) -> u32
+        ensures { result ≡ allowance (priced_floor self.now) j }
+    {
+        let costs = (0..self.count()).map(|k| self.resumption(j, k));
+        self.row(j).scrub + costs.max().unwrap_or(0)
     }
 }

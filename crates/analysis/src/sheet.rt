@@ -4,7 +4,6 @@ ghost use Rattle.analysis.specs.Rows.{Rows};
 
 use crate::priced::PricedDraft;
 use crate::row::Row;
-use std::array;
 
 pub mod charges;
 pub mod limits;
@@ -26,10 +25,14 @@ impl Sheet {
     pub fn of(floor: &PricedDraft) -> Sheet
         ensures { sheet_floor result ≡ priced_floor floor.now }
     {
+        // By index and no `from_fn`, which would work out a row for each of sixteen numbers: those past the last task's are all alike.
+        let mut rows = [Row::blank(); 16];
+        for task in 0..floor.count() {
+            rows[task as usize] = floor.row(task);
+        }
         Sheet {
             floor: *floor,
-            // from_fn tells a usize; below the array's length the remainder is the number itself
-            rows: array::from_fn(|task| floor.row((task % 16) as u8)),
+            rows,
         }
     }
 
@@ -48,7 +51,7 @@ impl Sheet {
         if task < 16 {
             self.rows[task as usize]
         } else {
-            self.floor.row(task)
+            Row::blank()
         }
     }
 }

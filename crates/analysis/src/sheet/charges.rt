@@ -1,7 +1,7 @@
 //! What the scrubs may cost each task. Every charge fits 32 bits, whatever the ways cost: all scrubs of a task cost at most
 //! 8 × 65,535 calls, and its budget is at most 60,000.
 ghost use Rattle.std.specs.Prelude.{◌≡◌, ◌<◌, ◌≤◌};
-ghost use Rattle.analysis.specs.Charges.{allowance, block, blocking, hold_cost, interference, resume_below, resumption};
+ghost use Rattle.analysis.specs.Charges.{block, blocking, hold_cost, interference, resume_below, resumption};
 ghost use Rattle.analysis.specs.Rivals.{RivalsOf};
 ghost use Rattle.analysis.specs.Sheets.{sheet_floor};
 
@@ -37,13 +37,6 @@ impl Sheet {
     {
         let row = self.row(j);
         row.figures.budget + row.scrub + self.resume_below(j, i + 1)
-    }
-
-    /// The ticks of scrubbing that one job of task j brings into a run: its own scrubs, and those of the task that it makes resume.
-    pub fn allowance(&self, j: u8) -> u32
-        ensures { result ≡ allowance (sheet_floor self.now) j }
-    {
-        self.row(j).scrub + self.resume_below(j, self.count())
     }
 
     // How long task l, once it has had a tick, may still hold the core against everybody.

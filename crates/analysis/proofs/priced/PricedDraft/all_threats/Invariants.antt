@@ -1,9 +1,0 @@
-use Rattle.std.proofs.Common.{◌≡◌, ℕ}
-use Rattle.sets.specs.Below.{some_below}
-use Rattle.sets.specs.Sets.{has}
-use Rattle.analysis.specs.Charges.{threatens}
-use Rattle.analysis.specs.PricedFloor.{priced_floor}
-use Rattle.analysis.proofs.priced.PricedDraft.all_threats.Given as goal
-
-abbrev pub invariant-loop-other : goal.invariant-loop-other
-invariant-loop-other l = (w : ℕ) → has l.ways w ≡ some_below l.other (λ k. threatens (priced_floor l.self) k l.task w)
